@@ -1,6 +1,7 @@
 """What came of a step: how much there was, what was mended, left out or has no effect, and the
 limits of the server that what was written goes over."""
 
+from collections import Counter
 from dataclasses import dataclass, field
 from typing import Mapping, NamedTuple
 
@@ -8,7 +9,8 @@ MENDED, LEFT_OUT, READ, NO_EFFECT = "mended", "left out", "read", "no effect"
 ROWS, MERGED = "rows", "merged"
 
 
-class Note(NamedTuple):
+@dataclass(frozen=True)
+class Note:
     """A kind of what was done, how often it was, and the line that it came on first, or the
     place. Notes of `READ`, `ROWS` and `MERGED` have a text alone."""
 
@@ -20,7 +22,9 @@ class Note(NamedTuple):
     def __str__(self) -> str:
         if self.first:
             return f"{self.kind}: {self.what}: {self.count}, the first at {self.first}"
-        return f"{self.kind}: {self.what}, {self.count}" if self.count else f"{self.kind}: {self.what}"
+        return (
+            f"{self.kind}: {self.what}, {self.count}" if self.count else f"{self.kind}: {self.what}"
+        )
 
 
 class Excess(NamedTuple):
@@ -40,14 +44,14 @@ class Excess(NamedTuple):
 class Outcome:
     """What came of a step. `said` is the counts as a sentence."""
 
-    said: str
+    said: str = ""
     counts: Mapping[str, int] = field(default_factory=dict)
     notes: tuple[Note, ...] = ()
     over: tuple[Excess, ...] = ()
 
     def lines(self) -> list[str]:
         """What's said of it to people."""
-        return [self.said, *map(str, self.notes), *map(str, self.over)]
+        return [*filter(None, [self.said]), *map(str, self.notes), *map(str, self.over)]
 
     def is_whole(self, lenient: bool = False) -> bool:
         """Whether all is within the limits, and nothing was left out for a flaw, unless that's
@@ -63,24 +67,31 @@ class Prepared(NamedTuple):
 
 
 class Notes:
-    """Collects notes, by their kinds and texts."""
+    """Collects notes of what was mended and what was left out: of each kind and text the first
+    place, and how often it came."""
 
     def __init__(self) -> None:
-        self.found: dict[str, dict[str, Note]] = {MENDED: {}, LEFT_OUT: {}}
+        self.firsts: dict[tuple[str, str], str] = {}
+        self.counts: Counter[tuple[str, str]] = Counter()
 
-    def mend(self, what: str, line: int, count: int = 1) -> None:
+    def mend(self, what: str, line: int) -> None:
         """Notes what was mended on a line of the input."""
-        self.add(MENDED, what, f"line {line}", count)
+        self.add(MENDED, what, f"line {line}")
 
     def leave_out(self, what: str, where: str) -> None:
         """Notes what was left out for a flaw."""
-        self.add(LEFT_OUT, what, where, 1)
+        self.add(LEFT_OUT, what, where)
 
-    def add(self, kind: str, what: str, first: str, count: int) -> None:
-        """Adds to a kind."""
-        known = self.found[kind].get(what) or Note(kind, what, 0, first)
-        self.found[kind][what] = known._replace(count=known.count + count)
+    def add(self, kind: str, what: str, where: str) -> None:
+        """Notes that something came once more."""
+        self.firsts.setdefault((kind, what), where)
+        self.counts[kind, what] += 1
 
     def all(self) -> tuple[Note, ...]:
         """The notes: what was mended, then what was left out."""
-        return tuple(note for those in self.found.values() for note in those.values())
+        return tuple(
+            Note(kind, what, self.counts[kind, what], first)
+            for wanted in (MENDED, LEFT_OUT)
+            for (kind, what), first in self.firsts.items()
+            if kind == wanted
+        )

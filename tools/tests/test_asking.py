@@ -8,8 +8,8 @@ import tempfile
 from contextlib import redirect_stderr, redirect_stdout
 
 from codenav.cli import ask
+from codenav.cli.prepare import PREPARE
 from codenav.client import upload
-from codenav.dumps.prepare import prepare
 from codenav.texts import places
 from tests.servers import TOP, OnServer
 
@@ -27,7 +27,7 @@ class Asking(OnServer):
         self.folder = os.path.realpath(self.enterContext(tempfile.TemporaryDirectory()))
         dump = os.path.join(self.folder, "dump")
         with redirect_stdout(io.StringIO()), redirect_stderr(io.StringIO()):
-            self.assertEqual(prepare.main([RAW, dump]), 0)
+            self.assertEqual(PREPARE.main([RAW, dump]), 0)
             self.assertEqual(upload.main("lsif", [self.url, "app", dump]), 0)
             self.assertEqual(upload.main("tags", [self.url, "app", TAGS]), 0)
 

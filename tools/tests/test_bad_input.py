@@ -10,11 +10,10 @@ from contextlib import redirect_stderr, redirect_stdout
 from typing import Callable, Optional
 
 from codenav.cli import ask
+from codenav.cli.prepare import PREPARE
 from codenav.cli.projects import LIST, REMOVE
 from codenav.client import upload
 from codenav.dumps.check import explain, why
-from codenav.dumps.prepare import prepare
-from codenav.dumps.scip import to_lsif as scip_to_lsif
 from codenav.publishing import publish
 from tests.servers import TOP
 from tests.test_client import FOUND, Peer, environment, head_of, sends, status
@@ -86,7 +85,7 @@ class Files(unittest.TestCase):
         ):
             path, out = self.written(name, body), os.path.join(self.folder, "out")
             for tool, main, words in (
-                ("prepare-lsif", prepare.main, [path, out]),
+                ("codenav prepare", PREPARE.main, [path, out]),
                 (
                     "publish",
                     publish.main,
@@ -104,7 +103,9 @@ class Files(unittest.TestCase):
                     with self.subTest(tool, name=name):
                         self.refused(main, words, f"^{tool}: .*{path}")
         self.refused(
-            prepare.main, ["/no/dump", "out"], "^prepare-lsif: /no/dump: No such file or directory$"
+            PREPARE.main,
+            ["/no/dump", "out"],
+            "^codenav prepare: /no/dump: No such file or directory$",
         )
 
     def test_indexes(self) -> None:
@@ -120,9 +121,9 @@ class Files(unittest.TestCase):
             path = self.written(name, body)
             with self.subTest(name):
                 self.refused(
-                    scip_to_lsif.main,
+                    PREPARE.main,
                     [path, os.path.join(self.folder, "out")],
-                    f"^scip-to-lsif: .*{path}",
+                    f"^codenav prepare: .*{path}",
                 )
 
     def test_files_of_calls(self) -> None:

@@ -14,9 +14,9 @@ from unittest import mock
 
 from codenav.asking.questions import Questions
 from codenav.cli import ask
+from codenav.cli.prepare import PREPARE
 from codenav.client import upload
 from codenav.client.fetch import Fetcher, fetch_from
-from codenav.dumps.prepare import prepare
 from codenav.faults import NoReply
 from codenav.publishing import publish
 from codenav.records import Prepared, new_record
@@ -76,7 +76,7 @@ class Crates(Served, OnServer, InRepository):
     def uploaded(self, name: str) -> None:
         """Uploads a crate's dump without a record."""
         dump = os.path.join(self.home, f"{name}.lsif")
-        self.assertEqual(quietly(prepare.main, "--strip", RAW[name], dump)[0], 0)
+        self.assertEqual(quietly(PREPARE.main, "--strip", RAW[name], dump)[0], 0)
         self.assertEqual(quietly(upload_dump, self.url, PROJECTS[name], dump)[0], 0)
 
     def change(self, name: str) -> None:

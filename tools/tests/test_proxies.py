@@ -12,9 +12,9 @@ import unittest
 from contextlib import redirect_stderr
 
 from codenav.cli import ask
+from codenav.cli.prepare import PREPARE
 from codenav.cli.projects import LIST, REMOVE
 from codenav.client import upload
-from codenav.dumps.prepare import prepare
 from codenav.program import ended, free_port
 from codenav.publishing import publish
 from tests.servers import SECONDS, TOP, OnServer
@@ -86,7 +86,7 @@ class Proxies(OnServer):
         with open(self.large, "wb") as body:
             body.write(b" " * LARGE)
         with redirect_stderr(io.StringIO()):
-            self.assertEqual(prepare.main([RAW, self.dump]), 0)
+            self.assertEqual(PREPARE.main([RAW, self.dump]), 0)
         names = ["-addext", "subjectAltName=DNS:localhost", "-keyout", both, "-out", f"{both}.crt"]
         subprocess.run([*CERTIFICATE.split(), *names], check=True, capture_output=True)
         with open(both, "a", encoding="ascii") as file, open(f"{both}.crt") as certificate:

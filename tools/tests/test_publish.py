@@ -18,7 +18,8 @@ from unittest import mock
 from codenav import limits
 from codenav.cli import ask
 from codenav.client.projects import listed
-from codenav.index.indexers import INDEXERS, is_scip
+from codenav.dumps.dump import is_scip
+from codenav.index.indexers import INDEXERS
 from codenav.publishing import publish
 from codenav.publishing.left_out import Row, rows_of, table
 from codenav.records import Prepared
@@ -103,7 +104,7 @@ class Publish(OnCheckout):
             [stage for stage in names if stage != "mended"],
             [
                 "indexed by rust-analyzer lsif .",
-                "prepare-lsif",
+                "prepared",
                 "tags by ctags",
                 "checked lsif",
                 "checked tags",

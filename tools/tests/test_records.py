@@ -11,8 +11,8 @@ from typing import Any
 from unittest import mock
 
 from codenav import limits
+from codenav.cli.prepare import PREPARE
 from codenav.dumps.check import why
-from codenav.dumps.prepare import prepare
 from codenav.progress import Quiet
 from codenav.records import ADDRESS, Prepared, Record, new_record, record_in
 from codenav.sets.surface.surface import write_surface
@@ -37,7 +37,7 @@ class Records(unittest.TestCase):
     def setUp(self) -> None:
         self.folder = self.enterContext(tempfile.TemporaryDirectory())
         self.path = os.path.join(self.folder, "dump.lsif")
-        self.assertEqual(quietly(prepare.main, "--strip", RAW, self.path)[0], 0)
+        self.assertEqual(quietly(PREPARE.main, "--strip", RAW, self.path)[0], 0)
 
     def elements(self) -> list[dict[str, Any]]:
         """The elements of the dump."""
@@ -112,7 +112,7 @@ class Records(unittest.TestCase):
         write_surface(self.path, "1", f"{plain}.surface", Quiet())
         self.assertTrue(Prepared(self.path).add(RECORD))
         again = f"{self.path}.again"
-        status, said = quietly(prepare.main, "--strip", "--report", self.path, again)
+        status, said = quietly(PREPARE.main, "--strip", "--report", self.path, again)
         count = len(self.elements())
         self.assertIn(f"; elements {count} -> {count}\n", said)
         self.assertEqual(status, 0, said)

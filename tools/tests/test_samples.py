@@ -18,9 +18,8 @@ needs("google.protobuf", "python3-protobuf")
 from google.protobuf import json_format
 
 from codenav.cli import ask
+from codenav.cli.prepare import PREPARE
 from codenav.client import upload
-from codenav.dumps.prepare import prepare
-from codenav.dumps.scip import to_lsif as scip_to_lsif
 from codenav.dumps.scip.scip_pb2 import Index
 from codenav.program import serving
 from tests.accepted import fault

@@ -15,10 +15,9 @@ from tests.packages import needs
 needs("google.protobuf", "python3-protobuf")
 
 from codenav import limits
+from codenav.cli.prepare import PREPARE
 from codenav.dumps.check import why
 from codenav.dumps.check.explain import Dump
-from codenav.dumps.prepare import prepare
-from codenav.dumps.scip import to_lsif as scip_to_lsif
 from codenav.dumps.scip.scip_pb2 import Index
 from tests.test_why import ANSWERS, TOP, found
 
@@ -151,7 +150,7 @@ class Scip(unittest.TestCase):
             source, out = os.path.join(folder, "index.scip"), os.path.join(folder, "out.lsif")
             with open(source, "wb") as file:
                 file.write(index)
-            status = scip_to_lsif.main([*words, source, out])
+            status = PREPARE.main([*words, source, out])
             self.assertLessEqual(
                 {"index.scip"} | set(os.listdir(folder)), {"index.scip", "out.lsif"}
             )
@@ -168,7 +167,7 @@ class Scip(unittest.TestCase):
             source, out = os.path.join(folder, "in"), os.path.join(folder, "out")
             with open(source, "wb") as file:
                 file.write(body or b"")
-            self.assertEqual(prepare.main([source, out]), 0)
+            self.assertEqual(PREPARE.main([source, out]), 0)
             with open(out, "rb") as file:
                 self.assertEqual(file.read(), body)
         self.assertIn("equal ranges merged 0 of", prepared.getvalue())
@@ -257,7 +256,7 @@ class Scip(unittest.TestCase):
         )
         self.assertEqual(
             said,
-            "scip-to-lsif: documents 2; symbols 6; occurrences 11, of which 1 at a place that has a range already, "
+            "codenav prepare: documents 2; symbols 6; occurrences 11, of which 1 at a place that has a range already, "
             f"1 left out for they overlap another; elements {len(elements)}\n",
         )
 
@@ -436,17 +435,19 @@ class Scip(unittest.TestCase):
                 if message is None:
                     self.assertEqual((status, (body or b"").count(b"\n")), (0, 1), said)
                 else:
-                    self.assertEqual((status, body, said), (2, None, f"scip-to-lsif: {message}\n"))
+                    self.assertEqual(
+                        (status, body, said), (2, None, f"codenav prepare: {message}\n")
+                    )
         tool = metadata().replace(field(1, "scip-x"), field(1, "scip-java"))
         tool = field(1, field(2, field(1, "scip-java")) + field(3, "file:///a"))
         self.assertEqual(
             self.converted(tool + document("a.ts", encoding=0))[2],
-            "scip-to-lsif: a.ts doesn't say what its characters count: give --encoding utf-16, as scip-java counts\n",
+            "codenav prepare: a.ts doesn't say what its characters count: give --encoding utf-16, as scip-java counts\n",
         )
         with redirect_stderr(io.StringIO()) as warned:
             self.assertEqual(
-                (scip_to_lsif.main(["no/index", "out"]), warned.getvalue()),
-                (2, "scip-to-lsif: no/index: No such file or directory\n"),
+                (PREPARE.main(["no/index", "out"]), warned.getvalue()),
+                (2, "codenav prepare: no/index: No such file or directory\n"),
             )
 
     def test_what_is_left_out(self) -> None:
@@ -543,7 +544,7 @@ class Scip(unittest.TestCase):
             with mock.patch.object(limits, name, most):
                 status, body, text = self.converted(SAMPLE)
             self.assertEqual(
-                (status, body is None, text.count("over the limits: "), f"{said}: leave" in text),
+                (status, body is None, text.count("over the limits: "), f"{said}\n" in text),
                 (1, False, 1, True),
             )
 

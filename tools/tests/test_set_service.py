@@ -12,9 +12,9 @@ from unittest import mock
 
 from codenav.asking.index import Asked
 from codenav.cli import ask
+from codenav.cli.prepare import PREPARE
 from codenav.client import http as client
 from codenav.client.http import found_in, request
-from codenav.dumps.prepare import prepare
 from codenav.faults import BadCall, NoReply
 from codenav.sets.manifest import NotAManifest
 from codenav.sets.publish import publish
@@ -36,7 +36,7 @@ def revision(number: int) -> bytes:
     top."""
     with tempfile.TemporaryDirectory() as folder, redirect_stderr(io.StringIO()):
         path = os.path.join(folder, "dump")
-        prepare.main([os.path.join(TOP, "demo", "crate.raw.lsif"), path])
+        PREPARE.main([os.path.join(TOP, "demo", "crate.raw.lsif"), path])
         with open(path, "rb") as file:
             elements = [json.loads(line) for line in file]
     document = next(e["id"] for e in elements if str(e.get("uri")).endswith("/scale.rs"))
@@ -341,7 +341,7 @@ class Published(OnFile):
         self.publish(branch)
         dump = os.path.join(self.folder, "user.lsif")
         with redirect_stderr(io.StringIO()):
-            prepare.main([os.path.join(TOP, "demo", "user.raw.lsif"), dump])
+            PREPARE.main([os.path.join(TOP, "demo", "user.raw.lsif"), dump])
         with open(dump, "rb") as file:
             Store(self.url).put("kettle", "lsif", file.read(), "k")
         place = Question("references", "file:///src/tr/user/src/lib.rs", (4, 24))

@@ -14,8 +14,9 @@ from typing import Any, Iterator, Optional
 from unittest import mock
 from urllib.parse import quote
 
-from codenav.dumps.prepare import prepare
+from codenav.cli.prepare import PREPARE
 from codenav.dumps.tables import graph
+from codenav.progress import Quiet
 from codenav.sets.split import crossing, flattening, keys
 from codenav.sets.split.crossing import Cut, Shared
 from codenav.sets.split.flat import Flat
@@ -33,7 +34,7 @@ Bodies = dict[str, bytes]
 def flat_of(path: str, profile: str) -> Flat:
     """The flat tables of a dump's file."""
     with open(path, "rb") as source:
-        return flattened(graph.read_graph(source, path, profile, False, "split-lsif"))
+        return flattened(graph.read_graph(source, path, profile, Quiet()))
 
 
 def bodies_of(cut: Cut, path: str) -> list[bytes]:
@@ -217,7 +218,7 @@ class EqualAnswers(unittest.TestCase):
         """The dump of the demo crate, prepared, and every request at every range of it."""
         raw, path = os.path.join(TOP, "demo", "crate.raw.lsif"), os.path.join(self.folder, "crate")
         with redirect_stderr(io.StringIO()):
-            prepare.main([raw, path])
+            PREPARE.main([raw, path])
         with open(path, "rb") as file:
             walk = Walk([json.loads(line) for line in file], "1")
         return path, list(questions(walk, OF_PROFILE["1"]))

@@ -20,7 +20,7 @@ needs("google.protobuf", "python3-protobuf")
 
 from google.protobuf import json_format
 
-from codenav.dumps.scip import to_lsif as scip_to_lsif
+from codenav.cli.prepare import PREPARE
 from codenav.dumps.scip.scip_pb2 import Index
 from codenav.dumps.tables import disk_arrays as stored
 from codenav.dumps.tables import graph
@@ -102,7 +102,7 @@ class SplitIndex(unittest.TestCase):
     def compare(self, what: object, *words: str) -> None:
         """Compares the parts of the index with those of its dump, in both profiles."""
         with redirect_stderr(io.StringIO()) as said:
-            status = scip_to_lsif.main(["--lenient", *words, self.index, self.dump])
+            status = PREPARE.main(["--lenient", *words, self.index, self.dump])
         self.assertEqual(status, 0, f"{what}: {said.getvalue()}")
         for profile in ("1", "2"):
             expected = bodies(flat_of(self.dump, profile), self.dump, profile)
@@ -151,7 +151,7 @@ class SplitIndex(unittest.TestCase):
         """Many documents by the tools' calls: the same files in both folders."""
         self.put(large(random.Random(1)))
         with redirect_stderr(io.StringIO()):
-            scip_to_lsif.main([self.index, self.dump])
+            PREPARE.main([self.index, self.dump])
         files: list[dict[str, bytes]] = []
         for number, own in enumerate((self.dump, self.index)):
             folder = os.path.join(self.folder, str(number))

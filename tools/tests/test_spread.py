@@ -14,7 +14,7 @@ from typing import Any, Callable, Optional
 from unittest import mock
 
 from codenav.cli import ask
-from codenav.dumps.prepare import prepare
+from codenav.cli.prepare import PREPARE
 from codenav.faults import NoReply
 from codenav.limits import MOST_ELEMENTS
 from codenav.program import ended, free_port, started
@@ -42,7 +42,7 @@ def crate(name: str) -> bytes:
     """The dump of a crate of demo/, prepared."""
     with tempfile.TemporaryDirectory() as folder, redirect_stderr(io.StringIO()):
         path = os.path.join(folder, name)
-        prepare.main([os.path.join(TOP, "demo", f"{name}.raw.lsif"), path])
+        PREPARE.main([os.path.join(TOP, "demo", f"{name}.raw.lsif"), path])
         with open(path, "rb") as file:
             return file.read()
 

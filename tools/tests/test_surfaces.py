@@ -12,7 +12,7 @@ from contextlib import redirect_stderr
 from typing import Any, Callable, Iterator
 from unittest import mock
 
-from codenav.dumps.prepare import prepare
+from codenav.cli.prepare import PREPARE
 from codenav.dumps.tables.graph import Graph
 from codenav.faults import NotADump
 from codenav.progress import Quiet
@@ -137,7 +137,7 @@ def crates() -> Case:
     with tempfile.TemporaryDirectory() as folder, redirect_stderr(io.StringIO()):
         for name in ("crate", "user"):
             path = os.path.join(folder, name)
-            prepare.main([os.path.join(TOP, "demo", f"{name}.raw.lsif"), path])
+            PREPARE.main([os.path.join(TOP, "demo", f"{name}.raw.lsif"), path])
             with open(path, "rb") as file:
                 bodies[name] = file.read()
     return Case(bodies, dict.fromkeys(bodies, "1"), [["crate"], ["user"]])

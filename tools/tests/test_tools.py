@@ -12,11 +12,11 @@ from unittest import mock
 from urllib.parse import quote
 
 from codenav.cli import ask
+from codenav.cli.prepare import PREPARE
 from codenav.client import fetch
 from codenav.client import http as client
 from codenav.client import upload
 from codenav.client.http import Answer
-from codenav.dumps.prepare import prepare
 from codenav.dumps.tables import rows
 from codenav.texts import places
 from tests.servers import replying
@@ -33,7 +33,7 @@ class Prepare(unittest.TestCase):
                 file.write(body)
             said = io.StringIO()
             with redirect_stderr(said):
-                status = prepare.main([*words, source, out])
+                status = PREPARE.main([*words, source, out])
             if not os.path.exists(out):
                 return status, None, said.getvalue()
             with open(out, "rb") as file:
@@ -167,10 +167,8 @@ class Prepare(unittest.TestCase):
             status, out, said = self.prepared(body)
             self.assertEqual((status, out == body), (1 if over else 0, True))
             found = [text.partition("over the limits: ")[2] for text in said.splitlines()]
-            self.assertEqual([text.partition(": ")[0] for text in found if text], over)
+            self.assertEqual([text for text in found if text], over)
             self.assertEqual("--without GLOB" in said, bool(over))
-            early = "at line 100001 it's over 100000 elements already, and the server takes no more (L20)"
-            self.assertEqual(early in said.splitlines()[0], body.count(b"\n") > 100_000)
 
     def test_labels_of_a_profile(self) -> None:
         rows = [
@@ -181,11 +179,11 @@ class Prepare(unittest.TestCase):
             '{"id":5,"type":"vertex","label":"implementationResult"}',
             '{"id":6,"type":"edge","label":"textDocument/implementation","outV":4,"inV":5}',
         ]
-        other = "prepare-lsif: no effect: vertex textDocument/declaration, 1"
+        other = "codenav prepare: no effect: vertex textDocument/declaration, 1"
         one = [
-            "prepare-lsif: no effect: edge textDocument/implementation, 1",
-            "prepare-lsif: no effect: vertex declarationResult, 1",
-            "prepare-lsif: no effect: vertex implementationResult, 1",
+            "codenav prepare: no effect: edge textDocument/implementation, 1",
+            "codenav prepare: no effect: vertex declarationResult, 1",
+            "codenav prepare: no effect: vertex implementationResult, 1",
             other,
         ]
         cases: list[tuple[list[str], list[str]]] = [
@@ -198,7 +196,7 @@ class Prepare(unittest.TestCase):
             self.assertEqual(
                 said[1:],
                 [
-                    "prepare-lsif: rows: 0 documents, 0 ranges, 0 items, 0 hovers, 0 marks, 0 bearers",
+                    "codenav prepare: rows: 0 documents, 0 ranges, 0 items, 0 hovers, 0 marks, 0 bearers",
                     *labels,
                 ],
             )
@@ -280,7 +278,7 @@ class Prepare(unittest.TestCase):
             self.assertEqual(tallies["pairs of attach"].counted, 4 if body is attached else 0)
         over = {"marks": rows.Tally(1, rows.MOST_ROWS + 1), "items": rows.Tally(1, rows.MOST_ROWS)}
         self.assertEqual(
-            rows.excesses(over),
+            [*map(str, rows.excesses(over))],
             ["over the limits: 4000001 rows of marks, the server takes 4000000 (S02)"],
         )
 

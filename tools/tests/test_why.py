@@ -10,9 +10,10 @@ import unittest
 from contextlib import redirect_stderr, redirect_stdout, suppress
 from typing import Any, NamedTuple, Optional
 
+from codenav.cli.prepare import PREPARE
 from codenav.dumps.check import why
 from codenav.dumps.check.explain import Dump
-from codenav.dumps.prepare import edges, prepare
+from codenav.dumps.prepare import edges
 from tests.accepted import Checker, is_id, key
 from tests.test_explain import BASE, META, edge, span, vertex
 from tests.test_prepared import dumps, lose, redirect, relabel, single, twist
@@ -142,7 +143,7 @@ CHAIN = [
 def graph_of(name: str) -> why.Graph:
     """A demo dump as the server takes it."""
     with tempfile.NamedTemporaryFile() as out, redirect_stderr(io.StringIO()):
-        prepare.main([os.path.join(TOP, "demo", name), out.name])
+        PREPARE.main([os.path.join(TOP, "demo", name), out.name])
         with open(out.name, "rb") as file:
             return why.Graph(Dump(name, file.read(), None))
 

@@ -24,10 +24,9 @@ TOOLS = {
     "publish": Tool(
         "publishing.publish", "from a checkout to answers: index, prepare, check, upload"
     ),
-    "prepare-lsif": Tool(
-        "dumps.prepare.prepare", "make a dump that the server accepts of an indexer's"
+    "prepare": Tool(
+        "cli.prepare", "make a dump that the server accepts of an indexer's", command="PREPARE"
     ),
-    "scip-to-lsif": Tool("dumps.scip.to_lsif", "make a dump of a SCIP index"),
     "surface-lsif": Tool("sets.surface.surface", "make of a dump what other servers need of it"),
     "split-lsif": Tool("sets.split.split", "split a dump that is too large into parts"),
     "publish-set": Tool("sets.publish.publish", "put a split dump on a server"),

@@ -11,9 +11,12 @@ from codenav.dumps.dump import opened_dump
 from codenav.dumps.lsif.reading import Source
 from codenav.dumps.prepare.plan import Options
 from codenav.dumps.prepare.prepare import prepare
+from codenav.dumps.scip.options import ScipOptions
 from codenav.outcome import Prepared
 from codenav.progress import Shows
 from codenav.texts.columns import ENCODINGS
+
+ADVICE = "leave documents out by --without GLOB, drop what has no effect by --strip, or index parts of the code as projects of their own"
 
 
 @dataclass(slots=True)
@@ -105,7 +108,7 @@ def prepared(call: PrepareCall, shows: Shows) -> Prepared:
             )
             return prepare(dump, call.output, options, shows)
         # loaded here: it needs a package that isn't needed for LSIF
-        from codenav.dumps.scip.conversion import ScipOptions, convert
+        from codenav.dumps.scip.conversion import convert
 
         of_index = ScipOptions(
             call.source, call.encoding, call.root, without, call.keep_file_ranges
@@ -116,7 +119,7 @@ def prepared(call: PrepareCall, shows: Shows) -> Prepared:
 def run_prepare(call: PrepareCall) -> int:
     """Prepares a dump, and says what came of it."""
     outcome = prepared(call, Shown("codenav prepare")).outcome
-    for line in outcome.lines():
+    for line in [*outcome.lines(), *([ADVICE] if outcome.over else [])]:
         print(f"codenav prepare: {line}", file=sys.stderr)
     return 0 if outcome.is_whole(call.lenient) else 1
 

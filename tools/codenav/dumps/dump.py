@@ -23,7 +23,7 @@ def is_index(head: bytes) -> bool:
     the fields of an index, which come in any order, and no object or array follows."""
     text = head.lstrip()
     is_json = text[:1] in (b"{", b"[") and text[1:].lstrip()[:1] in (b'"', b"{", b"[", b"}", b"")
-    return head[:1] in FIELDS and not is_json
+    return head[:1] in FIELDS and text != b"" and not is_json
 
 
 def index_in(file: BinaryIO, name: str) -> IndexFile:
@@ -35,6 +35,12 @@ def index_in(file: BinaryIO, name: str) -> IndexFile:
             raise
         raise BadCall("it needs Debian's package python3-protobuf") from None
     return IndexFile(file, name)
+
+
+def is_scip(path: str) -> bool:
+    """Whether a file is a SCIP index."""
+    with opened(path) as file:
+        return is_index(at_least(unpacked(file, path)[0], HEAD_BYTES))
 
 
 @contextmanager

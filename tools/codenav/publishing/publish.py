@@ -15,26 +15,30 @@ import shutil
 import subprocess
 import sys
 import tempfile
-from contextlib import contextmanager, redirect_stderr, suppress
+from contextlib import contextmanager, suppress
 from io import BufferedReader
 from typing import Any, Callable, Iterator, NamedTuple, Optional
 
 from codenav.addresses import folder_address
 from codenav.cli.ends import status_of
-from codenav.cli.main import main_of
 from codenav.cli.options import URL_HELP, add_server, add_words, parsed
 from codenav.client.http import address, found_in, refusal_of, reply_in, request_again
 from codenav.client.projects import fresh_key
 from codenav.client.upload import put, upload_url
 from codenav.dumps.check import explain
-from codenav.dumps.prepare import prepare
+from codenav.dumps.dump import is_scip, opened_dump
+from codenav.dumps.lsif.reading import Source
+from codenav.dumps.prepare.plan import Options
+from codenav.dumps.prepare.prepare import WITH_EFFECT_IN_TWO, prepare
+from codenav.dumps.scip.options import ScipOptions
 from codenav.faults import BadCall, NotADump
 from codenav.files import whole_file
-from codenav.index.indexers import INDEXERS, fitting, indexed, is_scip, named
+from codenav.index.indexers import INDEXERS, fitting, indexed, named
 from codenav.index.tags_file import LEFT_OUT, tagged
 from codenav.names import project_of, server_of, set_name, shown_name
+from codenav.outcome import MENDED
 from codenav.program import TOP
-from codenav.progress import Heard, Quiet, Stage, Watched
+from codenav.progress import Quiet, Stage, Watched
 from codenav.publishing.left_out import Row, rows_of, table
 from codenav.records import Prepared, new_record
 from codenav.sets.publish.publish import Publish, fetch_cuts, remove_set
@@ -42,7 +46,7 @@ from codenav.sets.publish.rebalance import GRACE, rebalanced
 from codenav.sets.publish.spread import Spread
 from codenav.sets.publish.store import Store
 from codenav.sets.ring import home_of, named_in_front, servers_of
-from codenav.sets.split.split import ScipOptions, SplitOptions, split
+from codenav.sets.split.split import SplitOptions, split
 from codenav.sets.surface.made import keep_surface, made_surface, surface_file, surface_name
 from codenav.settings.checkout import new_settings, plain, target_of
 from codenav.settings.found import FILE, found_in_file
@@ -50,7 +54,6 @@ from codenav.texts.checked_out import indexed_at, still_indexed_at
 from codenav.texts.places import map_words, uri_of
 
 TOOL = "publish"
-OVER = "over the limits"
 BUILT = os.path.join(TOP, "crates", "codenav", "out", "codenav")
 
 
@@ -66,14 +69,6 @@ class Body(NamedTuple):
     part: str
     path: str
     profile: Optional[str]
-
-
-def made_by(tool: Callable[[list[str]], int], words: list[str]) -> tuple[int, list[str]]:
-    """Calls another tool; answers its status and the lines that it says, without its name."""
-    heard = Heard()
-    with redirect_stderr(heard):
-        status = tool(words)
-    return status, [line.partition(": ")[2] for line in heard.getvalue().splitlines()]
 
 
 def program_of(given: Optional[str]) -> Optional[str]:
@@ -109,27 +104,23 @@ def prepared(
 ) -> tuple[list[str], bool]:
     """Writes the dump that the server takes of a dump or an index, without the documents of these
     patterns; answers what the tool said, and whether the dump is too large for one project."""
-    if is_scip(raw):
-        if without:
+    with Stage(TOOL, "prepared") as stage, opened_dump(raw) as source:
+        if isinstance(source, Source):
+            options = Options(strip=True, without=tuple(without), reports=True, profile=profile)
+            outcome = prepare(source, out, options, Quiet()).outcome
+        elif without:
             raise BadCall("--without is for dumps, and this is a SCIP index")
-        name, tool = "scip-to-lsif", main_of("scip-to-lsif")
-        words = ["--source", folder, raw, out]
-    else:
-        name, tool = "prepare-lsif", prepare.main
-        words = ["--strip", "--report", "--profile", profile, raw, out]
-        words[:0] = [word for glob in without for word in ("--without", glob)]
-    with Stage(TOOL, name) as stage:
-        status, lines = made_by(tool, words)
-        if status == 2:
-            raise BadCall(f"{name}: {lines[-1] if lines else 'no dump'}")
-        stage.detail = lines[0]
-    for line in lines:
-        if line.startswith("mended: "):
-            print(f"{TOOL}: {line}", file=sys.stderr)
-    over = [line for line in lines if line.startswith(OVER)]
-    if any("L01" in line for line in over):
-        raise Refused("\n".join(over))
-    return lines, bool(over)
+        else:
+            from codenav.dumps.scip.conversion import convert
+
+            outcome = convert(source, out, ScipOptions(folder), Quiet()).outcome
+        stage.detail = outcome.said
+    for note in outcome.notes:
+        if note.kind == MENDED:
+            print(f"{TOOL}: {note}", file=sys.stderr)
+    if any(excess.code == "L01" for excess in outcome.over):
+        raise Refused("\n".join(map(str, outcome.over)))
+    return outcome.lines(), bool(outcome.over)
 
 
 def check(program: str, part: str, path: str, profile: str) -> str:
@@ -252,7 +243,7 @@ def profile_of(path: str) -> str:
     results of that alone. Of an index that is split itself it isn't known."""
     if is_scip(path):
         return "2"
-    labels = [f'"{label}"'.encode() for label in prepare.WITH_EFFECT_IN_TWO["vertex"]]
+    labels = [f'"{label}"'.encode() for label in WITH_EFFECT_IN_TWO["vertex"]]
     with open(path, "rb") as dump:
         return "2" if any(label in line for line in dump for label in labels) else "1"
 
@@ -308,18 +299,6 @@ def set_folder(work: str) -> str:
     return os.path.join(work, "set")
 
 
-@contextmanager
-def opened_source(path: str) -> Iterator[Any]:
-    """The dump's path, or the index."""
-    if not is_scip(path):
-        yield path
-        return
-    from codenav.dumps.scip.messages import IndexFile
-
-    with open(path, "rb") as file:
-        yield IndexFile(file, path)
-
-
 def parts_of(
     call: argparse.Namespace, bodies: list[Body], folder: str
 ) -> tuple[list[Body], list[str]]:
@@ -337,9 +316,11 @@ def parts_of(
         tags[0] if tags else "",
         call.folder,
     )
-    with Stage(TOOL, "split-lsif") as stage, opened_source(bodies[0].path) as source:
+    with Stage(TOOL, "split-lsif") as stage, opened_dump(bodies[0].path) as source:
         try:
-            files = split(source, options, folder, Quiet(), ScipOptions(call.folder))
+            path = bodies[0].path
+            dump: Any = path if isinstance(source, Source) else source
+            files = split(dump, options, folder, Quiet(), ScipOptions(call.folder))
         except (BadCall, NotADump) as fault:
             raise Refused(str(fault)) from None
         stage.detail = files.lines()[-1]

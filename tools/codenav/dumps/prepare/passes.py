@@ -113,9 +113,7 @@ def leave_out_documents(plan: Plan, options: Options) -> None:
             )
         left.update(found)
     for number in sorted(left):
-        plan.notes.mend(
-            "document left out, as --without asks", plan.survey.numbers.lines[number]
-        )
+        plan.notes.mend("document left out, as --without asks", plan.survey.numbers.lines[number])
         plan.state[number] = DROPPED
     for number in range(plan.count) if left else ():
         if plan.kinds[number] == RANGE and plan.home[number] in left:
@@ -145,9 +143,7 @@ def sort_ranges(plan: Plan, options: Options) -> None:
             plan.moved[own] = first
         if outcome.around is not None and not options.keep_file_ranges:
             line = numbers.lines[outcome.around]
-            plan.notes.mend(
-                "range over a whole file, which stays as a place and isn't asked", line
-            )
+            plan.notes.mend("range over a whole file, which stays as a place and isn't asked", line)
             equal = [own for own, first in outcome.equal.items() if first == outcome.around]
             for own in (outcome.around, *equal):
                 silence(plan, own)

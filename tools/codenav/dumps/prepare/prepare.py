@@ -115,7 +115,9 @@ def merged(plan: Plan) -> Iterator[Note]:
     for own, kept in plan.moved.items():
         if own not in survey.merged:
             start = survey.numbers.starts[own]
-            place = f"{survey.uris[plan.home[own]]} line {start >> 31} character {start & 0x7FFFFFFF}"
+            place = (
+                f"{survey.uris[plan.home[own]]} line {start >> 31} character {start & 0x7FFFFFFF}"
+            )
             ranges = f"range {json.dumps(ids[own])} into {json.dumps(ids[kept])}"
             yield Note(MERGED, f"{place}: {ranges}")
 

@@ -8,16 +8,9 @@ ends the call.
 
 from typing import Any, BinaryIO, Callable, Iterator, Optional
 
-from codenav.dumps.lsif.json_values import text_of
 from codenav.dumps.lsif.elements import Element, Id, Row, is_id, shard_of, targets_of
-from codenav.dumps.prepare.plan import (
-    AS_SET,
-    DROPPED,
-    FROM,
-    KEPT,
-    MOVED,
-    Plan,
-)
+from codenav.dumps.lsif.json_values import text_of
+from codenav.dumps.prepare.plan import AS_SET, DROPPED, FROM, KEPT, MOVED, Plan
 from codenav.dumps.prepare.survey import (
     DECLARATION,
     DEFINITION,

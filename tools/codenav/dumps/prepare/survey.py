@@ -12,8 +12,8 @@ from itertools import pairwise
 from typing import Any, Iterator, Optional
 
 from codenav.addresses import folder_address
-from codenav.dumps.lsif.json_values import is_whole, text_of
 from codenav.dumps.lsif.elements import Element, Id, Row, is_id, shard_of, span_of, targets_of
+from codenav.dumps.lsif.json_values import is_whole, text_of
 from codenav.dumps.prepare.vertices import Mender, inline, is_path, without_text
 from codenav.faults import NotADump
 from codenav.outcome import Notes

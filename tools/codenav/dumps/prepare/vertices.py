@@ -5,8 +5,8 @@ from dataclasses import dataclass
 from typing import Any, Callable, Optional
 
 from codenav.addresses import address_of, folder_address, is_address, spelled
-from codenav.dumps.lsif.json_values import is_whole
 from codenav.dumps.lsif.elements import Element, span_of
+from codenav.dumps.lsif.json_values import is_whole
 from codenav.outcome import Notes
 
 VERSION = "0.6.0"

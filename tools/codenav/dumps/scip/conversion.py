@@ -4,33 +4,19 @@ references, hover and moniker. The index is read twice, one document at a time, 
 the global symbols and the largest document.
 """
 
-from dataclasses import dataclass, replace
-from typing import Optional
+from dataclasses import replace
 
 from codenav.dumps.scip.documents import Documents, Texts
 from codenav.dumps.scip.elements import Elements, Writer
 from codenav.dumps.scip.messages import IndexFile
 from codenav.dumps.scip.occurrences import Occurrences
+from codenav.dumps.scip.options import ScipOptions
 from codenav.dumps.scip.survey import Survey
 from codenav.dumps.scip.writer import Conversion
 from codenav.files import whole_file
 from codenav.limits import excesses
 from codenav.outcome import Notes, Outcome, Prepared
 from codenav.progress import Shows
-
-
-@dataclass(frozen=True)
-class ScipOptions:
-    """How an index is read. `source` is the folder of the files that were indexed, for documents
-    that count bytes or code points, and `encoding` what characters count in those that don't say
-    so; `root` is the address, or the folder, that documents are below, and `without` has patterns of
-    documents that are left out."""
-
-    source: Optional[str] = None
-    encoding: Optional[str] = None
-    root: Optional[str] = None
-    without: tuple[str, ...] = ()
-    keep_file_ranges: bool = False
 
 
 def surveyed(index: IndexFile, occurrences: Occurrences) -> Survey:
@@ -51,7 +37,10 @@ def surveyed(index: IndexFile, occurrences: Occurrences) -> Survey:
 def converted(index: IndexFile, writer: Elements, options: ScipOptions, shows: Shows) -> Outcome:
     """Hands on the elements of an index; answers what came of it."""
     notes = Notes()
-    documents, keeps = Documents(index, options.root, options.without, notes), options.keep_file_ranges
+    documents, keeps = (
+        Documents(index, options.root, options.without, notes),
+        options.keep_file_ranges,
+    )
     first, second = (
         Occurrences(documents, Texts(documents, options.source, options.encoding, own), own, keeps)
         for own in (notes, Notes())

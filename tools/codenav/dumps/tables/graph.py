@@ -14,8 +14,8 @@ from functools import partial
 from typing import Any, BinaryIO, Callable, Iterable, Iterator, Optional, Sequence
 
 from codenav.addresses import is_address
-from codenav.dumps.lsif.json_values import scan
 from codenav.dumps.lsif.elements import Id, is_id
+from codenav.dumps.lsif.json_values import scan
 from codenav.dumps.lsif.reading import MOST_ELEMENT_BYTES, SPACE
 from codenav.dumps.prepare.vertices import VERSION
 from codenav.dumps.tables.disk_arrays import Numbers
@@ -360,7 +360,9 @@ def read_graph(source: BinaryIO, name: str, profile: str, shows: Shows) -> Graph
                 first_element(element)
             reader.take(element, len(line))
         except Faulty as fault:
-            raise NotADump(f"{name}, line {number}: {fault}; `codenav prepare` prepares a dump") from None
+            raise NotADump(
+                f"{name}, line {number}: {fault}; `codenav prepare` prepares a dump"
+            ) from None
         except (KeyError, TypeError, AttributeError):
             text = "a member is missing or names no earlier vertex (L07 to L09)"
             raise NotADump(f"{name}, line {number}: {text}") from None

@@ -7,8 +7,9 @@ import json
 from array import array
 from typing import IO, Any, Iterator, Sequence
 
-from codenav.dumps.scip.conversion import ScipOptions, converted
+from codenav.dumps.scip.conversion import converted
 from codenav.dumps.scip.messages import IndexFile
+from codenav.dumps.scip.options import ScipOptions
 from codenav.dumps.tables.disk_arrays import Column, Numbers
 from codenav.dumps.tables.graph import KINDS, NONE, RANGE, Graph, Reader
 from codenav.outcome import Outcome

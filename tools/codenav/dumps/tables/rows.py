@@ -229,7 +229,9 @@ def note(tallies: Mapping[str, Tally]) -> Note:
 def excesses(tallies: Mapping[str, Tally]) -> list[Excess]:
     """Which limits of the server the rows go over."""
     return [
-        Excess(kind if kind.startswith("pairs") else f"rows of {kind}", tally.counted, MOST_ROWS, "S02")
+        Excess(
+            kind if kind.startswith("pairs") else f"rows of {kind}", tally.counted, MOST_ROWS, "S02"
+        )
         for kind, tally in tallies.items()
         if tally.counted > MOST_ROWS
     ]

@@ -14,12 +14,13 @@ import os
 import tempfile
 from contextlib import contextmanager
 from dataclasses import dataclass
-from types import SimpleNamespace
-from typing import IO, TYPE_CHECKING, Any, Callable, Iterator, NamedTuple, Optional, Sequence, Union
+from typing import IO, TYPE_CHECKING, Callable, Iterator, NamedTuple, Optional, Sequence, Union
 
+from codenav.dumps.scip.options import ScipOptions
 from codenav.dumps.tables.graph import ASKED, Graph, read_graph
 from codenav.faults import BadCall
 from codenav.limits import MOST_ELEMENTS
+from codenav.outcome import Outcome
 from codenav.progress import Shows
 from codenav.sets.files import MANIFEST, drop_others, put_manifest, read_head
 from codenav.sets.manifest import DIGITS, DocumentEntry, Head, PartEntry
@@ -53,23 +54,6 @@ class SplitOptions:
     jobs: int = 0
 
 
-class ScipOptions(NamedTuple):
-    """How an index is read."""
-
-    source: Optional[str] = None
-    encoding: Optional[str] = None
-    root: Optional[str] = None
-    without: Sequence[str] = ()
-    keep_file_ranges: bool = False
-
-
-class Reading(NamedTuple):
-    """What is said of a reading."""
-
-    lines: tuple[str, ...] = ()
-    is_flawed: bool = False
-
-
 class SetFiles(NamedTuple):
     """A set that was written into a folder: what its manifest says; how many elements and keys the
     dump has, and how many of the keys are hidden; how many results haven't all places; the
@@ -84,12 +68,12 @@ class SetFiles(NamedTuple):
     cut_short: int
     left_out: tuple[tuple[str, int], ...]
     tags_left_out: int
-    reading: Reading
+    reading: Outcome
 
     def lines(self) -> list[str]:
         """What is said of it."""
         counts = [part.elements for part in self.head.parts]
-        lines = [*self.reading.lines]
+        lines = self.reading.lines()
         lines += [f"left out: {uri}, {count} elements" for uri, count in self.left_out]
         if self.tags_left_out:
             lines.append(f"tags left out: {self.tags_left_out}, which are too many for their parts")
@@ -103,20 +87,21 @@ class SetFiles(NamedTuple):
 
 
 class Given(NamedTuple):
-    """What is split: its name, how it's read, and the file that has its hovers."""
+    """What is split: its name, how it's read with what came of that, and the file that has its
+    hovers."""
 
     name: str
-    read: Callable[[], tuple[Graph, Reading]]
+    read: Callable[[], tuple[Graph, Outcome]]
     hovers: str
 
 
 class Planned(NamedTuple):
-    """A cut of what is split, its elements, what is said of its reading, and the documents that were
+    """A cut of what is split, its elements, what came of its reading, and the documents that were
     left out with their elements."""
 
     cut: Cut
     elements: int
-    reading: Reading
+    reading: Outcome
     left_out: list[tuple[str, int]]
 
 
@@ -132,31 +117,26 @@ def uncollected() -> Iterator[None]:
             gc.enable()
 
 
-def of_dump(path: str, options: SplitOptions) -> Given:
+def of_dump(path: str, options: SplitOptions, shows: Shows) -> Given:
     """What is split of a prepared dump."""
 
-    def read() -> tuple[Graph, Reading]:
+    def read() -> tuple[Graph, Outcome]:
         with open(path, "rb") as source:
-            return read_graph(source, path, options.profile, False, ""), Reading()
+            return read_graph(source, path, options.profile, shows), Outcome()
 
     return Given(path, read, path)
 
 
 def of_index(
-    index: IndexFile, options: SplitOptions, scip: ScipOptions, hovers: IO[bytes]
+    index: IndexFile, options: SplitOptions, scip: ScipOptions, hovers: IO[bytes], shows: Shows
 ) -> Given:
     """What is split of an index, whose hovers are written into a file."""
     from codenav.dumps.tables.of_scip import read_index
 
-    def read() -> tuple[Graph, Reading]:
+    def read() -> tuple[Graph, Outcome]:
         hovers.truncate(0)
         hovers.seek(0)
-        said: list[str] = []
-        call: Any = SimpleNamespace(
-            **scip._asdict(), profile=options.profile, input=index.name, tool=""
-        )
-        graph = read_index(index.file.name, hovers, call, said)
-        return graph, Reading(tuple(said), call.is_flawed)
+        return read_index(index, hovers, options.profile, scip, shows)
 
     return Given(index.name, read, hovers.name)
 
@@ -219,9 +199,11 @@ def split(
         raise BadCall(f"a part has 1 to {MOST_ELEMENTS} elements, not {options.elements}")
     with uncollected():
         if isinstance(source, str):
-            return split_given(of_dump(source, options), options, folder, shows)
+            return split_given(of_dump(source, options, shows), options, folder, shows)
         with tempfile.NamedTemporaryFile() as hovers:
-            return split_given(of_index(source, options, scip, hovers), options, folder, shows)
+            return split_given(
+                of_index(source, options, scip, hovers, shows), options, folder, shows
+            )
 
 
 def split_given(given: Given, options: SplitOptions, folder: str, shows: Shows) -> SetFiles:

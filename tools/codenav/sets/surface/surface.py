@@ -162,7 +162,7 @@ def write_surface(
     """Writes the surface of the prepared dump in a file into another; `name` is what faults call
     it. Answers how many elements the dump has, and the surface. Raises NotADump."""
     with open(path, "rb") as source:
-        graph = read_graph(source, name or path, profile, False, "")
+        graph = read_graph(source, name or path, profile, shows)
         with whole_file(target) as out:
             surface = Surface(graph, source, out)
             surface.write()
