@@ -3,10 +3,11 @@
 import os
 from typing import Any
 
+from codenav.dumps.scip.options import ScipOptions
 from codenav.faults import Fault
 from codenav.names import set_name
 from codenav.progress import Quiet
-from codenav.sets.split.split import ScipOptions, SetFiles, SplitOptions, split
+from codenav.sets.split.split import SetFiles, SplitOptions, split
 
 
 def split_file(path: str, folder: str, name: str = "", **options: Any) -> SetFiles:
@@ -16,14 +17,14 @@ def split_file(path: str, folder: str, name: str = "", **options: Any) -> SetFil
     return split(path, SplitOptions(**own | options), folder, Quiet())
 
 
-def split_index(path: str, folder: str, name: str, scip: ScipOptions, **options: Any) -> SetFiles:
+def split_index(path: str, folder: str, name: str, **options: Any) -> SetFiles:
     """Splits the index in a file."""
     from codenav.dumps.scip.messages import IndexFile
 
     own: dict[str, Any] = {"name": name, "jobs": 1}
     with open(path, "rb") as file:
         index = IndexFile(file, path)
-        return split(index, SplitOptions(**own | options), folder, Quiet(), scip)
+        return split(index, SplitOptions(**own | options), folder, Quiet(), ScipOptions())
 
 
 def said_of_split(path: str, folder: str, name: str = "", **options: Any) -> tuple[int, str]:

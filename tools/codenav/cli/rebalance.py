@@ -11,7 +11,8 @@ from codenav.cli.publish import servers_in
 from codenav.cli.show import Shown
 from codenav.faults import BadCall
 from codenav.names import server_of
-from codenav.sets.publish.rebalance import GRACE, Lists, rebalance
+from codenav.sets.publish.rebalance import GRACE, rebalance
+from codenav.sets.publish.relocation import Lists
 from codenav.sets.ring import named_in_front, servers_of
 
 TOOL = "codenav rebalance"
