@@ -24,7 +24,7 @@ sys.path.insert(0, os.path.join(TOP, "tools"))
 
 from codenav.asking.index import Asked
 from codenav.client.fetch import Fetch, fetch_from
-from codenav.program import serving
+from codenav.program import Program
 from codenav.progress import Quiet
 from codenav.sets.publish.publish import Publish
 from codenav.sets.publish.spread import Spread
@@ -205,7 +205,7 @@ def main(program: str, number: int, dumps: list[str]) -> int:
         crates = [crate_of(path, folder) for path in dumps]
         count_saving(crates)
         one, *others = [
-            stack.enter_context(serving(program, quiet=True)) for _ in range(number + 1)
+            stack.enter_context(Program(program).serve()).url for _ in range(number + 1)
         ]
         differ = compared(crates, one, others)
     return 1 if differ else 0

@@ -18,3 +18,9 @@ class NotADump(Fault):
 class NoReply(BadCall):
     """A request that the server didn't answer as it was asked; the text begins with the fault's
     code where there is one."""
+
+
+class Failed(Fault):
+    """A trial that can't go on."""
+
+    status = 1
