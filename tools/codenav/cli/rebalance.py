@@ -3,7 +3,8 @@
 import argparse
 import os
 import sys
-from dataclasses import dataclass, field
+from dataclasses import dataclass
+from typing import Sequence
 
 from codenav.cli.command import Command
 from codenav.cli.options import URL_HELP, add_words, url_in
@@ -27,7 +28,7 @@ class RebalanceCall:
     servers_that_join: bool = False
     switch: str = ""
     grace: float = GRACE
-    words: list[str] = field(default_factory=list)
+    words: Sequence[str] = ()
 
 
 def add_rebalance(parser: argparse.ArgumentParser) -> None:
@@ -79,7 +80,7 @@ def lists_of(call: RebalanceCall, url: str) -> Lists:
 
 def run_rebalance(call: RebalanceCall) -> int:
     """Puts kept sets where they're to be; answers 2 where something can't be."""
-    url, rest = url_in(call.words, 1)
+    url, rest = url_in([*call.words], 1)
     if len(rest) != 1:
         raise BadCall("it takes [URL] FOLDER")
     lists = lists_of(call, url or os.environ.get("CODENAV_URL", ""))
