@@ -35,7 +35,7 @@ sys.path.insert(0, os.path.join(TOP, "tools"))
 from joined_dumps import Place, make_text, write_renamed
 from sets import children_seconds, processor_seconds, stage
 
-from codenav.asking.index import Asked
+from codenav.asking.index import Index
 from codenav.client.fetch import fetch_from
 from codenav.program import Failed, ended, free_port, started
 from codenav.sets.publish.publish import Publish, Store
@@ -144,7 +144,7 @@ def shown(places: list[dict[str, Any]]) -> list[str]:
 def ask_both(one: Server, spread: Server, places: list[Place], is_equal: bool) -> None:
     """Asks both servers at places, in turns, and prints what that takes; raises Failed where the
     answers should be equal and aren't."""
-    asked = [Asked("s0", fetch_from(server.url, SECONDS)) for server in (one, spread)]
+    asked = [Index("s0", fetch_from(server.url, SECONDS)) for server in (one, spread)]
     for kind in KINDS:
         times: list[list[float]] = [[], []]
         before = [processor_seconds(server.process.pid) for server in (one, spread)]

@@ -7,7 +7,7 @@ import subprocess
 import tempfile
 from contextlib import redirect_stderr, redirect_stdout
 
-from codenav.cli import ask
+from codenav.cli.ask import ASK
 from codenav.client import upload
 from codenav.dumps.prepare import prepare
 from codenav.texts import places
@@ -18,7 +18,7 @@ RAW = os.path.join(TOP, "demo", "crate.raw.lsif")
 TAGS = os.path.join(TOP, "demo", "crate.tags")
 ROOT = "file:///src/tr/crate"
 AT = ["18", "12"]
-NOT_MAPPED = "ask: app: no revision is kept with its index; its places aren't mapped\n"
+NOT_MAPPED = "codenav ask: app: no revision is kept with its index; its places aren't mapped\n"
 
 
 class Asking(OnServer):
@@ -34,7 +34,7 @@ class Asking(OnServer):
     def asked(self, *words: str) -> tuple[int, str, str]:
         """The status, what was printed, and what was said as an error."""
         with redirect_stdout(io.StringIO()) as said, redirect_stderr(io.StringIO()) as warned:
-            status = ask.main(list(words))
+            status = ASK.main(list(words))
         return status, said.getvalue(), warned.getvalue()
 
     def definition(self, file: str, *words: str) -> tuple[int, str, str]:
@@ -49,7 +49,7 @@ class Asking(OnServer):
             (
                 2,
                 "",
-                f"ask: D02 no such document: {uri}: the project has no such document, or its dump was made in another folder, "
+                f"codenav ask: D02 no such document: {uri}: the project has no such document, or its dump was made in another folder, "
                 "which --map URI=FOLDER says\n",
             ),
         )
@@ -58,7 +58,7 @@ class Asking(OnServer):
             (
                 2,
                 "",
-                f"ask: D02 no such document: file:///elsewhere/src/lib.rs, which --map makes of {file}: the project has no such "
+                f"codenav ask: D02 no such document: file:///elsewhere/src/lib.rs, which --map makes of {file}: the project has no such "
                 "document\n",
             ),
         )
@@ -69,12 +69,12 @@ class Asking(OnServer):
             (
                 "implementation",
                 "1",
-                "ask: app was uploaded in profile 1, which has no implementations: --profile 2 has them\n",
+                "codenav ask: app was uploaded in profile 1, which has no implementations: --profile 2 has them\n",
             ),
             (
                 "declaration",
                 "1",
-                "ask: app was uploaded in profile 1, which has no declarations: --profile 2 has them\n",
+                "codenav ask: app was uploaded in profile 1, which has no declarations: --profile 2 has them\n",
             ),
             ("definition", "1", ""),
             ("declaration", "2", ""),
@@ -120,7 +120,7 @@ class Asking(OnServer):
         self.assertEqual((status, said), (1, ""))
         self.assertEqual(
             warned,
-            "ask: 1 of 1 tags aren't shown, for their files aren't here: --tags PROJECT=FOLDER says where a project's tags "
+            "codenav ask: 1 of 1 tags aren't shown, for their files aren't here: --tags PROJECT=FOLDER says where a project's tags "
             "file was made\n",
         )
 

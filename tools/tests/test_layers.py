@@ -28,16 +28,12 @@ LAYERS = {
     "cli": "",
 }
 IMPORTS = """
-browse.answers -> cli.ask
-browse.command -> cli.options
 client.upload -> cli.ends
 client.upload -> cli.options
 client.upload -> dumps.lsif.reading
 client.upload -> dumps.tables.rows
 client.upload -> texts.checked_out
-dumps.check.why -> cli.ask
 dumps.check.why -> sets.manifest
-lsp.bridge -> cli.options
 publishing.publish -> cli.ends
 publishing.publish -> cli.main
 publishing.publish -> cli.options
@@ -50,7 +46,6 @@ sets.split.split -> cli.ends
 sets.split.split -> index.indexers
 sets.split.tags -> index.tags_file
 sets.surface.surface -> cli.ends
-settings.checkout -> cli.options
 """
 LONG = """
 client.http
@@ -60,20 +55,14 @@ dumps.lsif.reading
 dumps.prepare.rewriting
 dumps.prepare.survey
 dumps.tables.graph
-lsp.bridge
 publishing.publish
 sets.manifest
 sets.publish.publish
 sets.split.flat
 sets.split.part
 sets.split.split
-texts.git
-texts.indexed
 """
 USES = """
-asking.by_name: argparse
-browse.command: argparse
-browse.command: print
 client.upload: argparse
 client.upload: print
 dumps.check.explain: argparse
@@ -88,8 +77,6 @@ dumps.scip.to_lsif: argparse
 dumps.scip.to_lsif: print
 dumps.tables.graph: print
 dumps.tables.of_scip: argparse
-lsp.bridge: argparse
-lsp.bridge: print
 program: print
 progress: print
 publishing.publish: argparse
@@ -112,7 +99,6 @@ sets.split.split: argparse
 sets.split.split: print
 sets.surface.surface: argparse
 sets.surface.surface: print
-texts.indexed: argparse
 """
 
 

@@ -17,7 +17,7 @@ needs("google.protobuf", "python3-protobuf")
 
 from google.protobuf import json_format
 
-from codenav.cli import ask
+from codenav.cli.ask import ASK
 from codenav.client import upload
 from codenav.dumps.prepare import prepare
 from codenav.dumps.scip import to_lsif as scip_to_lsif
@@ -98,7 +98,7 @@ class Samples(unittest.TestCase):
         path, line, column = question["at"].rsplit(":", 2)
         maps = [f"file:///samples={SAMPLES}", f"file:///c%3A/samples={SAMPLES}"]
         status, out, said = called(
-            ask,
+            ASK,
             [
                 *(word for text in sorted(maps, key=first_of(sample)) for word in ("--map", text)),
                 *(url, project_of(sample), question["ask"]),

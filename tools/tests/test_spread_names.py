@@ -7,8 +7,8 @@ import unittest
 from contextlib import redirect_stderr, redirect_stdout
 
 from codenav.asking.all_servers import names_of_all
+from codenav.cli.ask import ASK
 from codenav.client.fetch import fetch_from
-from codenav.cli import ask
 from codenav.program import free_port, serving
 from codenav.sets.publish.publish import Publish, Store
 from codenav.sets.ring import home_of
@@ -115,7 +115,7 @@ class TwoServers(unittest.TestCase):
             ('project = "p"', [], (0, f"{place}:1:1: run0\n", "")),
             ("servers = [1]", [], (2, "", "the values of servers are texts")),
             ("", ["--servers", self.servers[0]], (2, "", "several servers are two at least")),
-            ("", ["--servers", f"{self.servers[0]},{away}"], (2, "", f"ask: {away}: ")),
+            ("", ["--servers", f"{self.servers[0]},{away}"], (2, "", f"codenav ask: {away}: ")),
         ]
         for settings, more, wanted in cases:
             with open(os.path.join(self.folder, FILE), "w", encoding="utf-8") as out:
@@ -126,7 +126,7 @@ class TwoServers(unittest.TestCase):
                 with redirect_stdout(io.StringIO()) as said, redirect_stderr(
                     io.StringIO()
                 ) as warned:
-                    status = ask.main([*words, *more])
+                    status = ASK.main([*words, *more])
             finally:
                 os.chdir(before)
             shown = "".join(

@@ -35,9 +35,11 @@ TOOLS = {
     "upload-tags": Tool("client.upload", "upload a tags file", ("tags",)),
     "remove": Tool("cli.projects", "remove a project", command="REMOVE"),
     "list": Tool("cli.projects", "list the projects of a server", command="LIST"),
-    "ask": Tool("cli.ask", "ask what is at a place, or for a name"),
-    "lsp": Tool("lsp.bridge", "serve an editor by the Language Server Protocol"),
-    "browse": Tool("browse.command", "show a folder's files as web pages with answers"),
+    "ask": Tool("cli.ask", "ask what is at a place, or for a name", command="ASK"),
+    "lsp": Tool("cli.lsp", "serve an editor by the Language Server Protocol", command="LSP"),
+    "browse": Tool(
+        "cli.browse", "show a folder's files as web pages with answers", command="BROWSE"
+    ),
     "explain-fault": Tool("dumps.check.explain", "say what is wrong with a dump that is refused"),
     "why": Tool("dumps.check.why", "say of a dump why an answer is what it is"),
     "supervise": Tool("service.supervise", "keep a server running over a folder"),

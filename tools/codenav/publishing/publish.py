@@ -22,7 +22,7 @@ from typing import Any, Callable, Iterator, NamedTuple, Optional
 from codenav.addresses import folder_address
 from codenav.cli.ends import status_of
 from codenav.cli.main import main_of
-from codenav.cli.options import URL_HELP, add_server, add_words, parsed
+from codenav.cli.options import URL_HELP, add_server, add_words, parsed, url_in
 from codenav.client.http import address, found_in, refusal_of, reply_in, request_again
 from codenav.client.upload import fresh_key, put, upload_url
 from codenav.dumps.check import explain
@@ -421,7 +421,7 @@ def published(call: argparse.Namespace) -> int:
     if call.rebalance is not None:
         call.servers = servers_in(call)
         return rebalanced(call)
-    call.url, call.project, call.folder = target_of(call.words)
+    call.url, call.project, call.folder = target_of(*url_in(call.words))
     call.home, call.set = server_of(call.url), call.set or "@" in call.project
     call.servers = servers_in(call)
     if call.servers_that_join and not call.servers:
