@@ -2,6 +2,7 @@
 of tags elsewhere, and of a pipe that is closed."""
 
 import io
+import json
 import os
 import subprocess
 import tempfile
@@ -9,6 +10,7 @@ from contextlib import redirect_stderr, redirect_stdout
 
 from codenav.cli.ask import ASK
 from codenav.client import upload
+from codenav.client.fetch import fetch_from
 from codenav.dumps.prepare import prepare
 from codenav.texts import places
 from tests.servers import TOP, OnServer
@@ -123,6 +125,35 @@ class Asking(OnServer):
             "codenav ask: 1 of 1 tags aren't shown, for their files aren't here: --tags PROJECT=FOLDER says where a project's tags "
             "file was made\n",
         )
+
+    def test_json(self) -> None:
+        """Of texts that are as they were indexed it's the server's reply, with paths."""
+        file, uri = os.path.join(CRATE, "src", "lib.rs"), f"{ROOT}/src/lib.rs"
+        words = ["--map", f"{ROOT}={CRATE}", "--tags", f"app={CRATE}", self.url, "app"]
+        fetch, at = fetch_from(self.url, 10), {"uri": uri, "line": 17, "character": 11}
+        for what, member, status in (
+            ("definition", "places", 0),
+            ("references", "places", 0),
+            ("implementation", "places", 1),
+            ("hover", "contents", 0),
+        ):
+            with self.subTest(what):
+                code, said, _ = self.asked(*words, what, "--json", file, *AT)
+                reply = json.loads(said)
+                paths = [one.pop("path") for one in reply["places"]] if member == "places" else []
+                found = fetch(f"/projects/app/{what}", at, member)
+                self.assertEqual((code, reply), (status, {member: found}))
+                self.assertEqual(said.count("\n"), 1)
+                if member == "places":
+                    wanted = [places.path_of(one["uri"], [(ROOT, CRATE)]) for one in found]
+                    self.assertEqual(paths, wanted)
+        code, said, _ = self.asked("--json", *words, "names", "is_warm")
+        [tag] = json.loads(said)["tags"]
+        start, end = ({"line": 16, "character": character} for character in (7, 14))
+        today = {"path": file, "uri": places.uri_of(file, []), "start": start, "end": end}
+        [found] = fetch("/names", {"name": "is_warm", "project": "app"}, "tags")
+        self.assertEqual((code, tag), (0, {**found, **today}))
+        self.assertEqual(self.asked("--json", *words, "names", "none")[:2], (1, '{"tags":[]}\n'))
 
     def test_a_pipe_that_is_closed(self) -> None:
         tool = os.path.join(TOP, "tools", "ask")

@@ -241,6 +241,21 @@ class Kept(Crates):
                     [row["href"] for row in rows], [f"/files/src/scale.rs#L{wanted['line'] + 1}C8"]
                 )
 
+    def test_json(self) -> None:
+        """A place in a file that was renamed has today's address."""
+        self.published("crate")
+        crate = os.path.join(self.home, "crate")
+        self.change("crate/src/scale.rs")
+        self.git("mv", "src/scale.rs", "src/new.rs", top=crate)
+        path, *at = self.place(*CALL)
+        maps = ["--map", f"{ROOT}={self.home}"]
+        words = [*maps, self.url, "temperature", "definition", "--json", path, *map(str, at)]
+        status, said, _ = quietly(ASK.main, *words)
+        [place] = json.loads(said)["places"]
+        found = place["path"], place["uri"], place["start"]["line"]
+        new = f"{crate}/src/new.rs", f"{ROOT}/crate/src/new.rs", 5
+        self.assertEqual((status, found), (0, new))
+
     def published_with_lines(self, number: int) -> None:
         """Publishes the crate as its indexer would write it with so many lines more on top of each
         file."""
