@@ -18,7 +18,7 @@ from importlib.util import module_from_spec, spec_from_loader
 
 from codenav.client import upload
 from codenav.faults import NoReply
-from codenav.program import serving
+from codenav.program import Program
 from codenav.texts.places import lines_of
 
 TOP = os.path.dirname(os.path.dirname(os.path.abspath(__file__)))
@@ -43,7 +43,8 @@ def main() -> int:
     """Reads the command line."""
     if len(sys.argv) < 3:
         sys.exit(__doc__)
-    with serving(sys.argv[1], quiet=True) as url:
+    with Program(sys.argv[1]).serve() as server:
+        url = server.url
         for pair in sys.argv[2:]:
             crate, _, dumps = pair.partition("=")
             for number, dump in enumerate(dumps.split(",")):

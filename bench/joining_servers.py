@@ -26,7 +26,8 @@ from sets import KINDS, points_of
 
 from codenav.asking.index import Index
 from codenav.client.fetch import Fetch, fetch_from
-from codenav.program import Failed, serving
+from codenav.faults import Failed
+from codenav.program import Program
 from codenav.sets.publish.publish import Publish, Store
 from codenav.sets.publish.spread import Made, Spread, made_surface
 from codenav.sets.ring import home_of
@@ -204,7 +205,7 @@ def main(program: str, number: int, dumps: list[str]) -> int:
         crates = [crate_of(path, folder) for path in dumps]
         count_saving(crates)
         one, *others = [
-            stack.enter_context(serving(program, quiet=True)) for _ in range(number + 1)
+            stack.enter_context(Program(program).serve()).url for _ in range(number + 1)
         ]
         differ = compared(crates, one, others)
     return 1 if differ else 0

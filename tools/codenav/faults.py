@@ -1,6 +1,5 @@
 """Why a call can't be carried out."""
 
-
 import re
 
 NO_DUMP, NO_DOCUMENT = "D01", "D02"
@@ -29,3 +28,9 @@ class NotADump(Fault):
 class NoReply(BadCall):
     """A request that the server didn't answer as it was asked; the text begins with the fault's
     code where there is one."""
+
+
+class Failed(Fault):
+    """A trial that can't go on."""
+
+    status = 1

@@ -15,9 +15,9 @@ from codenav.cli.ask import ASK
 from codenav.cli.projects import LIST, REMOVE
 from codenav.client import upload
 from codenav.dumps.prepare import prepare
-from codenav.program import ended, free_port
+from codenav.program import free_port
 from codenav.publishing import publish
-from tests.servers import SECONDS, TOP, OnServer
+from tests.servers import SECONDS, TOP, OnServer, ended
 from tests.test_bad_input import CRATE, RAW, Main, called
 from tests.test_client import environment
 

@@ -15,7 +15,7 @@ from typing import Any, Callable, Iterator
 from unittest import mock
 
 from codenav.faults import NoReply
-from codenav.program import ended, free_port
+from codenav.program import free_port
 from codenav.publishing import publish
 from codenav.sets.manifest import MANIFEST, PartEntry
 from codenav.sets.publish import rebalance
@@ -233,7 +233,7 @@ class Lost(Moved):
         """A server and its file are lost: its sets aren't answered, and the others are, also where
         they join into its surface. An empty one is filled by a call."""
         counts = [len(self.on(server)) for server in self.before]
-        ended(self.running[0])
+        self.running[0].end()
         for path in os.listdir(self.folder):
             if path.startswith(f"{self.ports[0]}.db"):
                 os.unlink(os.path.join(self.folder, path))
@@ -249,7 +249,7 @@ class Lost(Moved):
         """The sets of a server that doesn't come back are put at the others, by the list without
         it; a call before the front is switched says so, and the next one switches it."""
         self.done(self.servers, "--switch", self.add)
-        ended(self.running[3])
+        self.running[3].end()
         said = self.done(self.before)
         self.assertEqual(said[1:], [f"switch {self.front.url} to these servers, and call again"])
         self.assertEqual(self.of(self.name, self.before[0]), {"-surface", *self.parts_and_more()})
@@ -281,8 +281,8 @@ class Lost(Moved):
         for at in (0, 1, 8):
             with self.subTest(at):
                 if at == 0:
-                    ended(self.running[3])
-                with changing(at, lambda: ended(self.running[3])):
+                    self.running[3].end()
+                with changing(at, self.running[3].end):
                     with mock.patch("codenav.client.http.WAITS", (0.1,)):
                         status, said, faults = self.rebalance(self.servers)
                 self.assertEqual((status, said, len(faults)), (2, [], 1))

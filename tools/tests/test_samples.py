@@ -22,7 +22,7 @@ from codenav.client import upload
 from codenav.dumps.prepare import prepare
 from codenav.dumps.scip import to_lsif as scip_to_lsif
 from codenav.dumps.scip.scip_pb2 import Index
-from codenav.program import serving
+from codenav.program import Program
 from tests.accepted import fault
 from tests.servers import program
 
@@ -82,7 +82,8 @@ class Samples(unittest.TestCase):
 
     def test_the_answers_of_a_server(self) -> None:
         for group in groups():
-            with tempfile.TemporaryDirectory() as folder, serving(program(), quiet=True) as url:
+            with tempfile.TemporaryDirectory() as folder, Program(program()).serve() as server:
+                url = server.url
                 for sample in group:
                     out = self.accept(sample, folder)
                     words = ["--profile", "2", url, project_of(sample), out]

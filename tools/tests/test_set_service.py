@@ -222,7 +222,7 @@ class Published(OnFile):
                     Publish(store, both.folders[1]).run()
                 except NoReply:
                     broken += 1
-                if self.server.poll() is not None:
+                if not self.server.is_there():
                     self.start()
                 both.answering(self.url)
                 self.publish_after_break(both.folders[1])

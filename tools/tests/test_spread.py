@@ -16,7 +16,7 @@ from unittest import mock
 from codenav.cli.ask import ASK
 from codenav.dumps.prepare import prepare
 from codenav.faults import NoReply
-from codenav.program import ended, free_port, started
+from codenav.program import Program, Running, free_port
 from codenav.publishing import publish
 from codenav.sets.manifest import PartEntry
 from codenav.sets.publish.publish import Claim, Late, Publish, Store, claimed, remove_set
@@ -27,7 +27,7 @@ from codenav.settings.found import FILE
 from codenav.texts.places import uri_of
 from tests.dump_walks import OF_PROFILE, Walk, answered, questions
 from tests.fronts import LONGEST, NOBODY, fronted, host_of, lacking
-from tests.servers import REQUESTS, TOP, program
+from tests.servers import TOP, program
 from tests.test_lsp import Editor
 from tests.test_set_service import MOST_STEPS, answer_of, asked_at, revision, split_into
 
@@ -75,11 +75,11 @@ class OnServers(unittest.TestCase):
     def end_servers(self) -> None:
         """Ends the servers."""
         for server in self.running:
-            ended(server)
+            server.end()
 
-    def start(self, port: int) -> Any:
+    def start(self, port: int) -> Running:
         """Starts a server over its file."""
-        return started(self.program, port, REQUESTS, f"{self.folder}/{port}.db", quiet=True)
+        return Program(self.program).serve(f"{self.folder}/{port}.db", port)
 
     def name_at(self, server: str, start: str) -> str:
         """A name that begins so and whose home is a server."""
@@ -310,7 +310,7 @@ class Published(TwoSets):
         on, and the next publish goes on from there."""
         self.spread(self.folders[0]).run()
         counts = self.counts()
-        ended(self.running[2])
+        self.running[2].end()
         with self.assertRaisesRegex(
             NoReply,
             f"^{self.servers[2]}: .*; servers done: .*; the set is as it was, publish again$",

@@ -9,7 +9,7 @@ from contextlib import redirect_stderr, redirect_stdout
 from codenav.asking.all_servers import names_of_all
 from codenav.cli.ask import ASK
 from codenav.client.fetch import fetch_from
-from codenav.program import free_port, serving
+from codenav.program import Program, free_port
 from codenav.sets.publish.publish import Publish, Store
 from codenav.sets.ring import home_of
 from codenav.settings.found import FILE
@@ -28,7 +28,7 @@ def line(name: str, file: str, number: int) -> bytes:
 class TwoServers(unittest.TestCase):
     def setUp(self) -> None:
         self.folder = self.enterContext(tempfile.TemporaryDirectory())
-        self.servers = [self.enterContext(serving(program(), quiet=True)) for _ in range(2)]
+        self.servers = [self.enterContext(Program(program()).serve()).url for _ in range(2)]
 
     def name_at(self, at: int, start: str) -> str:
         """A name that begins so and whose home is a server."""
@@ -47,7 +47,7 @@ class TwoServers(unittest.TestCase):
     def test_merged(self) -> None:
         """The order is that of one server, by name, project and line, whichever server has what;
         one server that has all answers the same."""
-        one = self.enterContext(serving(program(), quiet=True))
+        one = self.enterContext(Program(program()).serve()).url
         names = [self.name_at(at, start) for start in "abc" for at in (1, 0)]
         for number, name in enumerate(names):
             body = b"".join(

@@ -16,7 +16,7 @@ from unittest import mock
 from codenav.cli.projects import LIST, REMOVE
 from codenav.client import upload
 from codenav.client.http import address, found_in, request
-from codenav.program import serving
+from codenav.program import Program
 from tests.repository import git_in
 from tests.servers import NOT_BUILT, TOP, OnServer, Relay, built_program
 from tests.test_explain import DOCUMENT, META, edge, vertex
@@ -94,7 +94,8 @@ class Uploads(OnServer):
             (["Atags", "Btags", "Atags"], ["--once"], ("D01", "B")),
         ]
         for calls, words, wanted in cases:
-            with self.subTest(calls, words=words), serving(self.program, quiet=True) as url:
+            with self.subTest(calls, words=words), Program(self.program).serve() as server:
+                url = server.url
                 for call in calls:
                     self.make(call, *words, url=url)
                 self.assertEqual(self.there(url), wanted)
@@ -147,7 +148,8 @@ class Uploads(OnServer):
             ("Ctags", "Atags", ("D01", "B")),
         ):
             for lost in (1, 2):
-                with self.subTest(call, lost=lost), serving(self.program, quiet=True) as url:
+                with self.subTest(call, lost=lost), Program(self.program).serve() as server:
+                    url = server.url
                     other = f"B{wanted[0] == 'D01' and 'tags' or ''}"
                     self.make(first, url=url)
                     with Relay(url, lost, lambda: self.make(other, url=url)) as relay:
@@ -163,7 +165,8 @@ class Uploads(OnServer):
     def test_what_can_be_read_once(self) -> None:
         """A pipe is uploaded as a file is, and sent again as one."""
         for path in ("-", "/dev/stdin"):
-            with self.subTest(path), serving(self.program, quiet=True) as url:
+            with self.subTest(path), Program(self.program).serve() as server:
+                url = server.url
                 with Relay(url, 1) as relay, open(self.files["A"], "rb") as file:
                     tool = os.path.join(TOP, "tools", "upload-lsif")
                     words = [tool, "--retry", relay.url, "app", path]
