@@ -37,10 +37,6 @@ dumps.check.why -> sets.manifest
 publishing.publish -> cli.ends
 publishing.publish -> cli.main
 publishing.publish -> cli.options
-service.backup -> cli.ends
-service.restore -> cli.ends
-service.supervise -> cli.ends
-service.turn -> cli.ends
 sets.publish.publish -> cli.ends
 sets.split.split -> cli.ends
 sets.split.split -> index.indexers
@@ -77,20 +73,10 @@ dumps.scip.to_lsif: argparse
 dumps.scip.to_lsif: print
 dumps.tables.graph: print
 dumps.tables.of_scip: argparse
-program: print
 progress: print
 publishing.publish: argparse
 publishing.publish: print
 publishing.publish: sys.argv
-service.backup: argparse
-service.backup: print
-service.restore: argparse
-service.restore: print
-service.server: print
-service.supervise: argparse
-service.supervise: print
-service.turn: argparse
-service.turn: print
 sets.publish.publish: argparse
 sets.publish.publish: print
 sets.publish.rebalance: argparse
