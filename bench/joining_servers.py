@@ -22,7 +22,7 @@ from typing import Any, NamedTuple
 TOP = os.path.dirname(os.path.dirname(os.path.abspath(__file__)))
 sys.path.insert(0, os.path.join(TOP, "tools"))
 
-from codenav.asking.index import Asked
+from codenav.asking.index import Index
 from codenav.client.fetch import Fetch, fetch_from
 from codenav.program import Program
 from codenav.progress import Quiet
@@ -123,7 +123,7 @@ def answers_of(crates: list[Crate], servers: list[str]) -> Answers:
     """What the sets answer."""
     found, fetch = [], fetch_by_name(servers)
     for crate in crates:
-        index = Asked(crate.name, fetch)
+        index = Index(crate.name, fetch)
         for kind, member in KINDS.items():
             for uri, line, character in crate.points:
                 place = {"uri": uri, "line": line, "character": character}

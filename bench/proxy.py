@@ -12,7 +12,7 @@ from urllib.parse import parse_qsl, urlencode
 
 from servers import ask, least_times, nginx
 
-from codenav.asking.index import Asked as Index
+from codenav.asking.index import Index
 from codenav.client.fetch import fetch_from
 from codenav.faults import Failed
 from codenav.program import Program, free_port

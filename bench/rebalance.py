@@ -24,7 +24,7 @@ from urllib.parse import parse_qsl
 
 from proxy import Asked, as_set, by_port, publish_all, put_all, queries
 
-from codenav.asking.index import Asked as Index
+from codenav.asking.index import Index
 from codenav.client.fetch import fetch_from
 from codenav.faults import Failed, NoReply
 from codenav.program import Program, Running, free_port

@@ -32,7 +32,7 @@ sys.path.insert(0, os.path.join(TOP, "tools"))
 
 from joined_dumps import Place, make_text, write_renamed
 
-from codenav.asking.index import Asked
+from codenav.asking.index import Index
 from codenav.client.fetch import fetch_from
 from codenav.faults import Failed
 from codenav.program import Program, Running
@@ -123,7 +123,7 @@ def shown(places: list[dict[str, Any]]) -> list[str]:
 def ask_both(one: Running, spread: Running, places: list[Place], is_equal: bool) -> None:
     """Asks both servers at places, in turns, and prints what that takes; raises Failed where the
     answers should be equal and aren't."""
-    asked = [Asked("s0", fetch_from(server.url, SECONDS)) for server in (one, spread)]
+    asked = [Index("s0", fetch_from(server.url, SECONDS)) for server in (one, spread)]
     for kind in KINDS:
         times: list[list[float]] = [[], []]
         before = [processor_seconds(server.pid) for server in (one, spread)]

@@ -9,7 +9,7 @@ import unittest
 from contextlib import redirect_stderr, redirect_stdout
 from typing import Callable, Optional
 
-from codenav.cli import ask
+from codenav.cli.ask import ASK
 from codenav.cli.prepare import PREPARE
 from codenav.cli.projects import LIST, REMOVE
 from codenav.client import upload
@@ -129,16 +129,16 @@ class Files(unittest.TestCase):
     def test_files_of_calls(self) -> None:
         path = self.written("binary", b"\xff\0")
         cases: list[tuple[str, Main, list[str], str]] = [
-            ("ask", ask.main, ["http://h", "app", "hover", path, "1", "1"], "binary: not a text"),
+            ("ask", ASK.main, ["http://h", "app", "hover", path, "1", "1"], "binary: not a text"),
             (
                 "ask",
-                ask.main,
+                ASK.main,
                 ["http://h", "app", "hover", self.folder, "1", "1"],
                 "Is a directory",
             ),
             (
                 "ask",
-                ask.main,
+                ASK.main,
                 ["--map", "x", "http://h", "app", "names", "f"],
                 "--map takes URI=FOLDER",
             ),
@@ -157,7 +157,7 @@ class Files(unittest.TestCase):
         ]
         for tool, main, words, line in cases:
             with self.subTest(tool, words=words):
-                self.refused(main, words, f"^{tool}: .*{line}")
+                self.refused(main, words, f"^(?:codenav )?{tool}: .*{line}")
 
 
 class Servers(unittest.TestCase):
@@ -179,8 +179,8 @@ class Servers(unittest.TestCase):
         file = os.path.join(CRATE, "src", "lib.rs")
         for said, act in answers.items():
             cases: list[tuple[str, Main, list[str]]] = [
-                ("ask", ask.main, ["app", "names", "f"]),
-                ("ask", ask.main, ["app", "definition", file, "18", "12"]),
+                ("ask", ASK.main, ["app", "names", "f"]),
+                ("ask", ASK.main, ["app", "definition", file, "18", "12"]),
                 ("list", LIST.main, []),
                 ("remove", REMOVE.main, ["app"]),
                 ("upload-lsif", lambda words: upload.main("lsif", words), ["app", RAW]),

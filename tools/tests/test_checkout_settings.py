@@ -12,8 +12,8 @@ from unittest import mock
 
 import tomllib
 
-from codenav.browse import command as browse
-from codenav.cli import ask
+from codenav.cli.ask import ASK
+from codenav.cli.browse import BROWSE, browser_of
 from codenav.client import http as client
 from codenav.publishing import publish
 from codenav.settings.found import FILE
@@ -61,10 +61,10 @@ class Written(OnServer, InRepository):
             ["--revision", "HEAD", "definition", *place],
         ):
             maps = ["--map", f"{root}={self.top}"] if "app" in words else []
-            status, said, warned = quietly(ask.main, *maps, *words)
+            status, said, warned = quietly(ASK.main, *maps, *words)
             self.assertEqual((status, os.path.abspath(said)), (0, f"{scale}:4:8\n"), warned)
         at = os.path.join(self.top, "src")
-        settings = browse.browser_of(browse.words_parser().parse_args([at])).settings
+        settings = browser_of(BROWSE.read([at])).settings
         self.assertEqual(settings[:4], (self.url, "app", self.top, [(root, self.top)]))
 
     def test_other_settings(self) -> None:
@@ -76,7 +76,7 @@ class Written(OnServer, InRepository):
         call = ["--write-settings", self.url, "app", self.top]
         status, _, said = self.published(*call)
         self.assertEqual((status, said.endswith(fault)), (2, True), said)
-        self.assertEqual(quietly(ask.main, self.url, "app", "names", "x")[0], 2)
+        self.assertEqual(quietly(ASK.main, self.url, "app", "names", "x")[0], 2)
         self.assertEqual(self.published("--overwrite", *call)[0], 0)
         with open(self.file, encoding="utf-8") as file:
             text = 'revision = "old"\n' + file.read()
@@ -93,18 +93,22 @@ class Written(OnServer, InRepository):
         place = [self.lib, "18", "12"]
         above = f"above {os.path.dirname(self.lib)}"
         cases: list[tuple[Any, list[str], str]] = [
-            (ask.main, ["definition", *place], f"ask: no project, and no {FILE} {above} says one"),
             (
-                ask.main,
+                ASK.main,
+                ["definition", *place],
+                f"codenav ask: no project, and no {FILE} {above} says one",
+            ),
+            (
+                ASK.main,
                 ["app", "definition", *place],
-                f"ask: no server: neither CODENAV_URL nor a {FILE} {above} has one",
+                f"codenav ask: no server: neither CODENAV_URL nor a {FILE} {above} has one",
             ),
             (
-                browse.main,
+                BROWSE.main,
                 [self.top],
-                f"browse: no project, and no {FILE} above {self.top} says one",
+                f"codenav browse: no project, and no {FILE} above {self.top} says one",
             ),
-            (browse.main, [], "browse: it takes [[URL] PROJECT] FOLDER"),
+            (BROWSE.main, [], "codenav browse: it takes [[URL] PROJECT] FOLDER"),
             (publish.main, [self.top + "/"], f"publish: no project, and {self.file} says none"),
             (publish.main, ["app", self.top], f"publish: no server, and {self.file} says none"),
             (
@@ -157,7 +161,7 @@ class Logins(InRepository):
                 client, "BY_CALL", set()
             ), mock.patch.object(client, "BY_FILES", set()):
                 seen.clear()
-                status, _, said = quietly(ask.main, *words, "hover", path, "1", "1")
+                status, _, said = quietly(ASK.main, *words, "hover", path, "1", "1")
             self.assertEqual((status, seen), (2, ["Bearer secret" if is_sent else None]), words)
             self.assertEqual(hint in said, not is_sent and not words, said)
 

@@ -11,7 +11,7 @@ import time
 import unittest
 from contextlib import redirect_stderr
 
-from codenav.cli import ask
+from codenav.cli.ask import ASK
 from codenav.cli.prepare import PREPARE
 from codenav.cli.projects import LIST, REMOVE
 from codenav.client import upload
@@ -69,7 +69,7 @@ LARGE = 5_000_000
 CERTIFICATE = "openssl req -x509 -newkey rsa:2048 -nodes -days 1 -subj /CN=localhost"
 
 
-NOT_MAPPED = "ask: app: no revision is kept with its index; its places aren't mapped\n"
+NOT_MAPPED = "codenav ask: app: no revision is kept with its index; its places aren't mapped\n"
 
 
 class Proxies(OnServer):
@@ -133,8 +133,8 @@ class Proxies(OnServer):
                 ["app", os.path.join(TOP, "demo", "crate.tags")],
                 0,
             ),
-            ("ask", ask.main, ["app", "definition", *place], 0),
-            ("ask", ask.main, ["--tags", f"app={CRATE}", "app", "names", "is_warm"], 0),
+            ("ask", ASK.main, ["app", "definition", *place], 0),
+            ("ask", ASK.main, ["--tags", f"app={CRATE}", "app", "names", "is_warm"], 0),
             ("list", LIST.main, [], 0),
             ("remove", REMOVE.main, ["none"], 1),
         ]

@@ -16,7 +16,7 @@ from typing import Optional
 from unittest import mock
 
 from codenav import limits
-from codenav.cli import ask
+from codenav.cli.ask import ASK
 from codenav.client.projects import listed
 from codenav.dumps.dump import is_scip
 from codenav.index.indexers import INDEXERS
@@ -77,7 +77,7 @@ class OnCheckout(OnServer):
     def answer(self, project: str = "app") -> str:
         """What the server answers for the definition of a function in the crate."""
         with redirect_stdout(io.StringIO()) as said, redirect_stderr(io.StringIO()) as warned:
-            ask.main([*MAP, self.url, project, *PLACE])
+            ASK.main([*MAP, self.url, project, *PLACE])
         return os.path.abspath(said.getvalue()) if said.getvalue() else warned.getvalue()
 
 
@@ -233,10 +233,10 @@ class Publish(OnCheckout):
         path = self.change()
         maps = ["--map", f"file:///src/tr/crate={self.checkout}"]
         with redirect_stdout(io.StringIO()) as out, redirect_stderr(io.StringIO()) as warned:
-            ask.main([*maps, self.url, "app", "definition", path, "20", "12"])
+            ASK.main([*maps, self.url, "app", "definition", path, "20", "12"])
         scale = os.path.join(self.checkout, "src", "scale.rs")
         self.assertEqual(out.getvalue(), f"{scale}:4:8\n")
-        line = f"ask: {path} changed since: the answer is of {commit}\n"
+        line = f"codenav ask: {path} changed since: the answer is of {commit}\n"
         self.assertEqual(warned.getvalue(), line)
 
     def test_ways_to_a_dump(self) -> None:
@@ -282,7 +282,7 @@ class Publish(OnCheckout):
                 given = line.removeprefix(of).replace("FOLDER", folder)
                 place = [os.path.join(self.checkout, "src", "lib.rs"), "18", "12"]
                 with redirect_stdout(io.StringIO()) as out, redirect_stderr(io.StringIO()):
-                    ask.main(["--map", given, self.url, "app", "definition", *place])
+                    ASK.main(["--map", given, self.url, "app", "definition", *place])
                 scale = os.path.join(self.checkout, "src", "scale.rs")
                 self.assertEqual(out.getvalue(), f"{scale}:4:8\n")
 

@@ -17,8 +17,7 @@ needs("google.protobuf", "python3-protobuf")
 
 from google.protobuf import json_format
 
-from codenav.cli import ask
-from codenav.cli.prepare import PREPARE
+from codenav.cli.ask import ASK
 from codenav.client import upload
 from codenav.dumps.scip.scip_pb2 import Index
 from codenav.program import Program
@@ -98,7 +97,7 @@ class Samples(unittest.TestCase):
         path, line, column = question["at"].rsplit(":", 2)
         maps = [f"file:///samples={SAMPLES}", f"file:///c%3A/samples={SAMPLES}"]
         status, out, said = called(
-            ask,
+            ASK,
             [
                 *(word for text in sorted(maps, key=first_of(sample)) for word in ("--map", text)),
                 *(url, project_of(sample), question["ask"]),

@@ -10,8 +10,8 @@ from contextlib import redirect_stderr, redirect_stdout
 from typing import Any, Callable
 from unittest import mock
 
-from codenav.asking.index import Asked
-from codenav.cli import ask
+from codenav.asking.index import Index
+from codenav.cli.ask import ASK
 from codenav.cli.prepare import PREPARE
 from codenav.client import http as client
 from codenav.client.http import found_in, request
@@ -57,16 +57,16 @@ def split_into(folder: str, body: bytes, name: str = NAME, most: int = 200, **op
     split_file(path, folder, name, elements=most, **options)
 
 
-def asked_at(url: str, name: str) -> Asked:
+def asked_at(url: str, name: str) -> Index:
     """A set or a project on a server."""
 
     def fetch(path: str, parameters: dict[str, Any], member: str) -> Any:
         return found_in(request(client.address(url, path, parameters)), member)
 
-    return Asked(name, fetch)
+    return Index(name, fetch)
 
 
-def answer_of(asked: Asked, question: Question) -> Any:
+def answer_of(asked: Index, question: Question) -> Any:
     """The answer of a set on a server, as a walk answers."""
     line, character = question.position
     parameters = {"uri": question.uri, "line": line, "character": character}
@@ -406,7 +406,7 @@ class Tools(OnFile):
             (["references", SCALE, "4", "8"], [f"{LIB}:18:12", f"{SCALE}:4:8"]),
         ):
             with redirect_stdout(io.StringIO()) as said:
-                self.assertEqual(ask.main([*MAP, self.url, NAME, *words]), 0)
+                self.assertEqual(ASK.main([*MAP, self.url, NAME, *words]), 0)
             self.assertEqual([os.path.abspath(line) for line in said.getvalue().split()], expected)
 
     def test_lsp(self) -> None:

@@ -13,7 +13,7 @@ from contextlib import redirect_stderr, redirect_stdout
 from typing import Any, Callable, Optional
 from unittest import mock
 
-from codenav.cli import ask
+from codenav.cli.ask import ASK
 from codenav.cli.prepare import PREPARE
 from codenav.faults import NoReply
 from codenav.limits import MOST_ELEMENTS
@@ -372,7 +372,7 @@ class Called(OnServers):
         self.assertEqual(sorted(places), [(code, 3), (code, 17), *own])
         words = ["--map", f"file:///src/tr={TOP}/demo", self.front.url, user, "definition"]
         place = [os.path.join(TOP, "demo", "user", "src", "lib.rs"), "5", "25"]
-        status, said, warned = self.call(ask.main, *words, *place)
+        status, said, warned = self.call(ASK.main, *words, *place)
         path = os.path.join(TOP, "demo", "crate", "src", "scale.rs")
         self.assertEqual((status, os.path.abspath(said)), (0, f"{path}:4:8\n"), warned)
         self.assertEqual(self.by_an_editor(user, code), {(uri_of(path, []), 3)})

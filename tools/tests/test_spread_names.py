@@ -8,7 +8,7 @@ from contextlib import redirect_stderr, redirect_stdout
 from typing import Any
 
 from codenav.asking.all_servers import names_of_all
-from codenav.cli import ask
+from codenav.cli.ask import ASK
 from codenav.client.fetch import fetch_from
 from codenav.program import Program, free_port
 from codenav.sets.publish.publish import Publish
@@ -117,7 +117,7 @@ class TwoServers(unittest.TestCase):
             ('project = "p"', [], (0, f"{place}:1:1: run0\n", "")),
             ("servers = [1]", [], (2, "", "the values of servers are texts")),
             ("", ["--servers", self.servers[0]], (2, "", "several servers are two at least")),
-            ("", ["--servers", f"{self.servers[0]},{away}"], (2, "", f"ask: {away}: ")),
+            ("", ["--servers", f"{self.servers[0]},{away}"], (2, "", f"codenav ask: {away}: ")),
         ]
         for settings, more, wanted in cases:
             with open(os.path.join(self.folder, FILE), "w", encoding="utf-8") as out:
@@ -128,7 +128,7 @@ class TwoServers(unittest.TestCase):
                 with redirect_stdout(io.StringIO()) as said, redirect_stderr(
                     io.StringIO()
                 ) as warned:
-                    status = ask.main([*words, *more])
+                    status = ASK.main([*words, *more])
             finally:
                 os.chdir(before)
             shown = "".join(

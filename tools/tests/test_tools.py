@@ -11,7 +11,7 @@ from typing import Any
 from unittest import mock
 from urllib.parse import quote
 
-from codenav.cli import ask
+from codenav.cli.ask import ASK
 from codenav.cli.prepare import PREPARE
 from codenav.client import fetch
 from codenav.client import http as client
@@ -317,8 +317,8 @@ class Places(unittest.TestCase):
         )
 
 
-AWAY = "ask: 1 of 1 tags aren't shown, for their files aren't here: --tags PROJECT=FOLDER says where a project's tags file was made\n"
-NOT_MAPPED = "ask: app: no revision is kept with its index; its places aren't mapped\n"
+AWAY = "codenav ask: 1 of 1 tags aren't shown, for their files aren't here: --tags PROJECT=FOLDER says where a project's tags file was made\n"
+NOT_MAPPED = "codenav ask: app: no revision is kept with its index; its places aren't mapped\n"
 
 
 class Ask(unittest.TestCase):
@@ -331,7 +331,7 @@ class Ask(unittest.TestCase):
         with mock.patch.object(fetch, "request", replying(answer, asked)), redirect_stdout(
             io.StringIO()
         ) as said, redirect_stderr(io.StringIO()) as warned:
-            status = ask.main(words)
+            status = ASK.main(words)
         return status, asked[0], said.getvalue(), warned.getvalue()
 
     def place(self, file: str, start: tuple[int, int], end: tuple[int, int]) -> dict[str, Any]:
@@ -371,7 +371,7 @@ class Ask(unittest.TestCase):
             for words, column in beyond:
                 with redirect_stderr(io.StringIO()) as warned:
                     self.assertEqual(
-                        ask.main([*words, *self.AT, "hover", file.name, "2", str(column)]), 2
+                        ASK.main([*words, *self.AT, "hover", file.name, "2", str(column)]), 2
                     )
                 self.assertIn(f"has no line 2 with a column {column}\n", warned.getvalue())
 
@@ -454,7 +454,7 @@ class Ask(unittest.TestCase):
                         0,
                         f"{file.name}:1:1\n",
                         NOT_MAPPED
-                        + f"ask: nothing but a range over all of {file.name} covers this place\n"
+                        + f"codenav ask: nothing but a range over all of {file.name} covers this place\n"
                         * warns,
                     ),
                 )
@@ -463,7 +463,7 @@ class Ask(unittest.TestCase):
         """Contents as the Language Server Protocol has them are printed; what else is JSON is
         refused by one line."""
         text, marked = {"kind": "markdown", "value": "b"}, {"language": "c", "value": "d"}
-        refused = "ask: not the contents of codenav: "
+        refused = "codenav ask: not the contents of codenav: "
         for contents, status, said in (
             ("a", 0, "a\n"),
             ("", 0, "\n"),
@@ -497,7 +497,8 @@ class Ask(unittest.TestCase):
             [*self.AT, "hover", RAW, "1", "1"], {"fault": "D01", "text": "project has no dump"}
         )
         self.assertEqual(
-            (reply[0], reply[3]), (2, f"ask: D01 project has no dump: {places.uri_of(RAW, [])}\n")
+            (reply[0], reply[3]),
+            (2, f"codenav ask: D01 project has no dump: {places.uri_of(RAW, [])}\n"),
         )
         with tempfile.NamedTemporaryFile() as file:
             file.write(b"\xff\0")
@@ -538,7 +539,9 @@ class Ask(unittest.TestCase):
             ]
             for words, message in rows:
                 with self.subTest(words), redirect_stderr(io.StringIO()) as warned:
-                    self.assertEqual((ask.main(words), warned.getvalue()), (2, f"ask: {message}\n"))
+                    self.assertEqual(
+                        (ASK.main(words), warned.getvalue()), (2, f"codenav ask: {message}\n")
+                    )
 
 
 class Upload(unittest.TestCase):

@@ -16,6 +16,7 @@ from codenav.cli.prepare import PREPARE
 from codenav.client import upload
 from codenav.faults import BadCall
 from codenav.settings.found import FILE, Settings, settings_in
+from codenav.texts import places
 from codenav.texts.decoded import text_of
 from codenav.texts.places import units, uri_of
 from tests.repository import InRepository, checkouts
@@ -160,7 +161,7 @@ class SettingsFile(unittest.TestCase):
                 elif os.path.exists(os.path.join(self.folder, folder, FILE)):
                     os.remove(os.path.join(self.folder, folder, FILE))
                 with self.assertRaises(BadCall) as caught:
-                    workspace.ask("definition", path, 0, 0)
+                    workspace.ask("definition", places.Place(path, 0, 0))
                 self.assertTrue(str(caught.exception).startswith(fault), caught.exception)
         deep = os.path.join(self.folder, "deep", FILE)
         self.assertEqual([line.split(": ")[0] for line in said], [deep])

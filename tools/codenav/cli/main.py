@@ -37,9 +37,11 @@ TOOLS = {
     "rebalance": Tool("cli.rebalance", "put kept sets where they belong", command="REBALANCE"),
     "list": Tool("cli.projects", "list the projects of a server", command="LIST"),
     "remove": Tool("cli.projects", "remove a project", command="REMOVE"),
-    "ask": Tool("cli.ask", "ask what is at a place, or for a name"),
-    "lsp": Tool("lsp.bridge", "serve an editor by the Language Server Protocol"),
-    "browse": Tool("browse.command", "show a folder's files as web pages with answers"),
+    "ask": Tool("cli.ask", "ask what is at a place, or for a name", command="ASK"),
+    "lsp": Tool("cli.lsp", "serve an editor by the Language Server Protocol", command="LSP"),
+    "browse": Tool(
+        "cli.browse", "show a folder's files as web pages with answers", command="BROWSE"
+    ),
     "explain-fault": Tool("dumps.check.explain", ""),
     "why": Tool("dumps.check.why", "say of a dump why an answer is what it is"),
     "supervise": Tool("cli.service", "keep a server running over a folder", command="SUPERVISE"),

@@ -9,7 +9,7 @@ from codenav.names import PROJECT
 
 
 class Help(argparse.HelpFormatter):
-    """Lays out help as argparse does, but keeps paragraphs apart, and lines that are set in as they
+    """Lays out help as argparse does, but keeps paragraphs apart, and those that are set in as they
     are. argparse loads `shutil` at each
     argument for the width of the terminal; that takes longer than a question."""
 

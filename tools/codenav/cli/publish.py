@@ -10,7 +10,7 @@ from dataclasses import dataclass, field
 from typing import Any, Iterator, Optional, Sequence
 
 from codenav.cli.command import Command
-from codenav.cli.options import URL_HELP, add_words
+from codenav.cli.options import URL_HELP, add_words, url_in
 from codenav.cli.show import Shown
 from codenav.files import whole_file
 from codenav.index.indexers import INDEXERS
@@ -236,7 +236,7 @@ def say(call: PublishCall, made: Made, sent: Optional[Sent], target: Target, wri
 def run_publish(call: PublishCall) -> int:
     """Goes from the checkout to the server; answers 1 where that refuses what was made, or
     would."""
-    url, project, folder = target_of([*call.words])
+    url, project, folder = target_of(*url_in([*call.words]))
     servers, path = servers_in(call.servers, folder), os.path.join(folder, FILE)
     target = target_at(url, project, servers, call.servers_that_join, call.set)
     with Shown(TOOL, True) as shows:

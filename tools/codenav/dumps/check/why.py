@@ -13,7 +13,6 @@ from typing import Any, Iterable, Iterator, Optional
 from urllib.parse import quote
 
 from codenav.addresses import serialized
-from codenav.cli.ask import hover_text
 from codenav.dumps.check.explain import Dump, ends, targets
 from codenav.dumps.lsif.elements import Element, Id, Span, is_id
 from codenav.dumps.lsif.reading import plain
@@ -22,6 +21,7 @@ from codenav.dumps.prepare.edges import flaw
 from codenav.dumps.prepare.vertices import contents_of
 from codenav.faults import BadCall, NotADump
 from codenav.sets.files import part_file
+from codenav.texts.hovers import hover_text
 from codenav.texts.places import KEPT, Maps, character_at, maps_of, place_line, place_of, uri_of
 
 Found = dict[str, Any]

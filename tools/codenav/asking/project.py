@@ -5,12 +5,13 @@ import os
 from typing import Any, NamedTuple, Optional, cast
 
 from codenav.addresses import below
-from codenav.asking.index import Asked as Index
+from codenav.asking.by_name import ByName
+from codenav.asking.index import Index
 from codenav.asking.versions import Versions
 from codenav.client.fetch import Fetch
-from codenav.faults import NoReply
-from codenav.texts.indexed import Asked, Indexed, NotThere, work_tree
-from codenav.texts.places import is_mapped, map_words, path_of, uri_of
+from codenav.faults import NO_DOCUMENT, NO_DUMP, NoReply
+from codenav.texts.places import Place, is_mapped, map_words, path_of, uri_of, work_tree
+from codenav.texts.today import IndexPlace, NotThere, Today
 
 TRIES = 4
 MEMBERS = {"hover": "contents"}
@@ -29,28 +30,52 @@ class Reply(NamedTuple):
     note: str = ""
 
 
-class Questions:
-    """Asks one project or set.
+class Project:
+    """A project or a set that is asked, whose tags file was made in a folder, if that's known.
 
     An index says of which revision it is. What it said before an answer is compared with what it
     says after it, and where these differ the question is asked again: so places are mapped by the
     revision of the index that answered.
     """
 
-    def __init__(self, name: str, fetch: Fetch, indexed: Indexed) -> None:
-        self.name, self.indexed = name, indexed
+    def __init__(self, name: str, fetch: Fetch, today: Today, folder: Optional[str] = None) -> None:
+        self.name, self.today = name, today
         self.index = Index(name, fetch)
         self.versions = Versions(name, self.index)
+        self.tags = ByName(self, folder)
 
-    def ask(self, what: str, path: str, line: int, character: int, **more: str) -> Reply:
-        """What is found at a place of a file. Raises NotThere where the place is new, and
+    def answer(self, what: str, at: Place, **more: str) -> Reply:
+        """What the index has at a place of a file, or where there are tags alone what these have.
+        Raises NotThere where the place is new, and NoReply."""
+        try:
+            return self.ask(what, at, **more)
+        except NoReply as fault:
+            if fault.code() != NO_DUMP or not os.path.isabs(at.name):
+                raise
+            found = self.tags.definitions(at) if what == "definition" else []
+            if not found and not self.tags.are_there():
+                raise
+        if what == "definition":
+            note = f"{self.name} has tags alone: the definition is by name"
+            return Reply(found, "", "", note)
+        note = f"{self.name} has tags alone: no {what}"
+        return Reply(None if what == "hover" else [], "", "", note)
+
+    def by_name(self, at: Place) -> Reply:
+        """The definitions by name, where they're asked for. Raises NoReply."""
+        note = f"the definition is by name, among the tags of {self.name}"
+        return Reply(self.tags.definitions(at), "", "", note)
+
+    def ask(self, what: str, at: Place, **more: str) -> Reply:
+        """What the index has at a place of a file. Raises NotThere where the place is new, and
         NoReply."""
+        path = at.name
         for _ in range(TRIES):
             found: Any = None
             fault = cast(Optional[Exception], None)
             self.learn(path)
             try:
-                place = self.indexed.asked(self.name, path, line, character)
+                place = self.today.to_index(self.name, at)
                 found = self.found(what, place, more)
             except NotThere as new:
                 fault = new
@@ -60,32 +85,32 @@ class Questions:
                 continue
             if fault is not None:
                 raise fault
-            self.indexed.tell(place.fault)
+            self.today.tell(place.fault)
             why = self.why_empty(what, place.uri) if found == [] else ""
-            return Reply(found if what == "hover" else self.indexed.places(found), place.of, why)
+            return Reply(found if what == "hover" else self.today.from_index(found), place.of, why)
         raise NoReply(f"{self.name} is published again and again")
 
     def learn(self, path: str, again: bool = False) -> None:
         """Learns of which revision the index is, unless that's known. Raises NoReply."""
-        if self.name not in self.indexed.sources:
+        if self.name not in self.today.sources:
             try:
                 version = self.versions.before(self.name, again)
             except NoReply as fault:
                 raise self.told(fault, self.uri(path), path) from None
-            self.indexed.learn(self.name, version.revision, version.why)
+            self.today.learn(self.name, version.revision, version.why)
 
     def is_as_before(self, places: list[dict[str, Any]], path: str) -> bool:
         """Whether the indexes that have these places, and the one that was asked, are of the
         revisions by which they were asked; else what they are of now is known. Raises NoReply."""
         is_same = True
         for name in [self.name, *self.others(places)]:
-            if name not in self.indexed.sources:
+            if name not in self.today.sources:
                 try:
                     version, is_own = self.versions.after(name)
                 except NoReply as fault:
                     raise self.told(fault, self.uri(path), path) from None
                 is_same = is_same and is_own
-                self.indexed.learn(name, version.revision, version.why)
+                self.today.learn(name, version.revision, version.why)
         return is_same
 
     def others(self, places: list[dict[str, Any]]) -> list[str]:
@@ -93,8 +118,8 @@ class Questions:
         was said."""
         found: dict[str, None] = {}
         for project, uri in {(one["project"], one["uri"]): None for one in places}:
-            path = None if project in (self.name, *found) else path_of(uri, self.indexed.maps)
-            if path and work_tree(path) and not self.indexed.others(project, path):
+            path = None if project in (self.name, *found) else path_of(uri, self.today.maps)
+            if path and work_tree(path) and not self.today.others(project, path):
                 found[project] = None
         return list(found)
 
@@ -114,27 +139,27 @@ class Questions:
 
     def uri(self, path: str) -> str:
         """The address of a document, by its file as it is today or by itself."""
-        return uri_of(path, self.indexed.maps) if os.path.isabs(path) else path
+        return uri_of(path, self.today.maps) if os.path.isabs(path) else path
 
     def told(self, fault: NoReply, uri: str, path: str) -> NoReply:
         """A fault with the address that was asked, and of a document that isn't there with what can
         be done."""
         text = f"{fault}: {uri}"
-        if str(fault) != "D02 no such document":
+        if str(fault) != f"{NO_DOCUMENT} no such document":
             return NoReply(text)
         folder = self.versions.folder(self.name)
         if folder and below(folder, uri) is None:
             return NoReply(
                 f"{text}: the project's documents are below {folder}, and --map {map_words(folder, 'FOLDER')} says where these are here"
             )
-        if folder or os.path.isabs(path) and is_mapped(path, self.indexed.maps):
+        if folder or os.path.isabs(path) and is_mapped(path, self.today.maps):
             which = "" if folder else f", which --map makes of {path}"
             return NoReply(f"{text}{which}: the project has no such document")
         return NoReply(
             f"{text}: the project has no such document, or its dump was made in another folder, which --map URI=FOLDER says"
         )
 
-    def found(self, what: str, place: Asked, more: dict[str, str]) -> Any:
+    def found(self, what: str, place: IndexPlace, more: dict[str, str]) -> Any:
         """What the index has at a place that it knows."""
         at = {"uri": place.uri, "line": place.line, "character": place.character}
         return self.index.query(what, {**at, **more}, MEMBERS.get(what, "places"))
