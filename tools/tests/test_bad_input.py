@@ -10,10 +10,10 @@ from contextlib import redirect_stderr, redirect_stdout
 from typing import Callable, Optional
 
 from codenav.cli.ask import ASK
+from codenav.cli.explain import EXPLAIN, WHY
 from codenav.cli.prepare import PREPARE
 from codenav.cli.projects import LIST, REMOVE
 from codenav.client import upload
-from codenav.dumps.check import explain, why
 from codenav.publishing import publish
 from tests.servers import TOP
 from tests.test_client import FOUND, Peer, environment, head_of, sends, status
@@ -95,11 +95,11 @@ class Files(unittest.TestCase):
                 with self.subTest(tool, name=name):
                     self.refused(main, words, f"^{tool}: .*{path}.*{line}")
             for tool, main, words in (
-                ("why", why.main, [path, "src/lib.rs", "18", "12"]),
-                ("explain-fault", explain.main, [path, "line 1000: L07 bad member"]),
+                ("codenav why", WHY.main, [path, "src/lib.rs", "18", "12"]),
+                ("codenav explain", EXPLAIN.main, [path, "line 1000: L07 bad member"]),
             ):
                 # `why` takes a dump that the server refuses, as long as it can be read.
-                if tool != "why" or name not in ("nothing", "cycle"):
+                if tool != "codenav why" or name not in ("nothing", "cycle"):
                     with self.subTest(tool, name=name):
                         self.refused(main, words, f"^{tool}: .*{path}")
         self.refused(

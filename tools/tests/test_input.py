@@ -13,9 +13,9 @@ from typing import Any, Optional
 from unittest import mock
 
 from codenav import addresses
+from codenav.cli.explain import WHY
 from codenav.cli.prepare import PREPARE
 from codenav.dumps import packed as packed_inputs
-from codenav.dumps.check import why
 from codenav.dumps.lsif import reading as lsif
 from codenav.dumps.prepare import rewriting, vertices
 from tests.accepted import fault
@@ -547,13 +547,13 @@ class Input(unittest.TestCase):
             with tempfile.NamedTemporaryFile() as file, redirect_stdout(io.StringIO()) as out:
                 file.write(body)
                 file.flush()
-                self.assertEqual(why.main([file.name, "a.ts", "3", "1"]), 0)
+                self.assertEqual(WHY.main([file.name, "a.ts", "3", "1"]), 0)
                 self.assertIn("answer: 1 place of this dump", out.getvalue())
         for body in (b"", b"\xff", b"[", gzip.compress(plain)[:-9]):
             with tempfile.NamedTemporaryFile() as file, redirect_stderr(io.StringIO()) as said:
                 file.write(body)
                 file.flush()
-                self.assertEqual(why.main([file.name, "a.ts", "3", "1"]), 2)
+                self.assertEqual(WHY.main([file.name, "a.ts", "3", "1"]), 2)
                 self.assertEqual(said.getvalue().count("\n"), 1)
 
 

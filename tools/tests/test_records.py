@@ -11,8 +11,8 @@ from typing import Any
 from unittest import mock
 
 from codenav import limits
+from codenav.cli.explain import WHY
 from codenav.cli.prepare import PREPARE
-from codenav.dumps.check import why
 from codenav.progress import Quiet
 from codenav.records import ADDRESS, Prepared, Record, new_record, record_in
 from codenav.sets.surface.surface import write_surface
@@ -117,9 +117,9 @@ class Records(unittest.TestCase):
         self.assertIn(f"; elements {count} -> {count}\n", said)
         self.assertEqual(status, 0, said)
         self.assertEqual(Prepared(again).record, RECORD)
-        status, said = quietly(why.main, self.path, os.path.join("src", "lib.rs"), "18", "12")
+        status, said = quietly(WHY.main, self.path, os.path.join("src", "lib.rs"), "18", "12")
         self.assertEqual((status, said.splitlines()[-1]), (0, "answer: 1 place of this dump"))
-        status, said = quietly(why.main, "--request", "hover", self.path, ADDRESS, "1", "1")
+        status, said = quietly(WHY.main, "--request", "hover", self.path, ADDRESS, "1", "1")
         self.assertEqual(status, 0, said)
         parts = os.path.join(self.folder, "parts")
         split_file(self.path, parts, "app")

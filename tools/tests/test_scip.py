@@ -16,8 +16,8 @@ needs("google.protobuf", "python3-protobuf")
 
 from codenav import limits
 from codenav.cli.prepare import PREPARE
-from codenav.dumps.check import why
-from codenav.dumps.check.explain import Dump
+from codenav.dumps.check.followed import Graph
+from codenav.dumps.check.lines import Dump
 from codenav.dumps.scip.scip_pb2 import Index
 from tests.test_why import ANSWERS, TOP, found
 
@@ -135,7 +135,7 @@ A, B = "file:///work/app/src/shapes.ts", "file:///work/app/src/a%20b.ts"
 SHAPE, CIRCLE, SQUARE = [A, 0, 10, 0, 15], [A, 1, 6, 1, 12], [B, 2, 0, 3, 1]
 
 
-def place_list(graph: why.Graph) -> list[list[Any]]:
+def place_list(graph: Graph) -> list[list[Any]]:
     """The places of the ranges of a dump."""
     return [
         [place["uri"], *place["start"].values(), *place["end"].values()]
@@ -159,7 +159,7 @@ class Scip(unittest.TestCase):
             with open(out, "rb") as file:
                 return status, file.read(), said.getvalue().replace(source, "INDEX")
 
-    def graph(self, index: bytes, *words: str) -> why.Graph:
+    def graph(self, index: bytes, *words: str) -> Graph:
         """The dump of an index, which is accepted and where `prepare-lsif` finds nothing to do."""
         status, body, said = self.converted(index, *words)
         self.assertEqual(status, 0, said)
@@ -179,7 +179,7 @@ class Scip(unittest.TestCase):
             self.assertEqual((element["id"], ends <= seen), (number, True), element)
             if element["type"] == "vertex":
                 seen.add(number)
-        return why.Graph(Dump("sample", body or b"", None))
+        return Graph(Dump("sample", body or b"", None))
 
     def test_the_answers_of_a_sample(self) -> None:
         graph = self.graph(SAMPLE)
@@ -388,7 +388,7 @@ class Scip(unittest.TestCase):
             "a.ts doesn't say what its characters count: give --encoding, which is the indexer's"
         )
         cases: list[tuple[bytes, list[str], Optional[str]]] = [
-            (b"", [], "INDEX: no SCIP index: it has no metadata"),
+            (document("a.ts"), [], "INDEX: no SCIP index: it has no metadata"),
             (
                 metadata(""),
                 [],
@@ -399,8 +399,8 @@ class Scip(unittest.TestCase):
                 [],
                 "INDEX: the index has no address of its root, but 'src': give --root, the folder that was indexed",
             ),
-            (b"hello", [], "INDEX: no SCIP index, or cut off, at byte 0"),
-            (b"\xff" * 30, [], "INDEX: no SCIP index, or cut off, at byte 0"),
+            (b"\nhello", [], "INDEX: no SCIP index, or cut off, at byte 0"),
+            (b"\x12" + b"\xff" * 30, [], "INDEX: no SCIP index, or cut off, at byte 0"),
             (one(field(2, b"\xff")), [], broken),
             (one(field(2, b"\x12\2a")), [], broken),
             (one(field(2, b"\x13")), [], broken),
@@ -484,7 +484,7 @@ class Scip(unittest.TestCase):
                     found, out, said = self.converted(metadata() + body, *words)
                     self.assertEqual(found, status, said)
                     self.assertIn(f"left out: {kind}: 1, the first at {where}\n", said)
-                    graph = why.Graph(Dump("sample", out or b"", None))
+                    graph = Graph(Dump("sample", out or b"", None))
                     place = ["file:///work/app/a.ts", 9, 0, 9, 1]
                     self.assertEqual(place_list(graph), [place])
 

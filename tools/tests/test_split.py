@@ -7,7 +7,7 @@ import unittest
 from typing import Any
 from unittest import mock
 
-from codenav.dumps.check import why
+from codenav.cli.explain import WHY
 from codenav.sets import files, manifest
 from codenav.sets.split import chains, flattening, split
 from tests.dump_walks import body_of
@@ -336,5 +336,5 @@ class Split(unittest.TestCase):
         self.split(body_of(made({"file:///src/a": 30, "file:///src/b": 30})), elements=120)
         self.assertEqual(len(self.head().parts), 2)
         with mock.patch("sys.stdout", io.StringIO()) as said:
-            self.assertEqual(why.main([self.out, "src/b", "2", "1"]), 0)
+            self.assertEqual(WHY.main([self.out, "src/b", "2", "1"]), 0)
         self.assertIn("scheme 'codenav-set'", said.getvalue())

@@ -42,8 +42,10 @@ TOOLS = {
     "browse": Tool(
         "cli.browse", "show a folder's files as web pages with answers", command="BROWSE"
     ),
-    "explain-fault": Tool("dumps.check.explain", ""),
-    "why": Tool("dumps.check.why", "say of a dump why an answer is what it is"),
+    "why": Tool("cli.explain", "say of a dump why an answer is what it is", command="WHY"),
+    "explain": Tool(
+        "cli.explain", "say what is wrong with a dump that is refused", command="EXPLAIN"
+    ),
     "supervise": Tool("cli.service", "keep a server running over a folder", command="SUPERVISE"),
     "turn": Tool("cli.service", "start a service's server anew, losing no request", command="TURN"),
     "backup": Tool("cli.service", "copy a service's database while it runs", command="BACKUP"),
