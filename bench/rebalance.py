@@ -25,10 +25,10 @@ from urllib.parse import parse_qsl
 from proxy import Asked, as_set, by_port, publish_all, put_all, queries
 
 from codenav.asking.index import Index
+from codenav.cli.publish import PUBLISH
 from codenav.client.fetch import fetch_from
 from codenav.faults import Failed, NoReply
 from codenav.program import Program, Running, free_port
-from codenav.publishing import publish
 from codenav.sets.ring import home_of
 from tests.fronts import KINDS, NOBODY, Front, adding, fronted, host_of, lacking
 
@@ -95,7 +95,7 @@ class Load:
 def called(*words: str) -> list[str]:
     """Calls `publish`, which ends with 0; answers what it prints."""
     with redirect_stdout(StringIO()) as said, redirect_stderr(StringIO()) as warned:
-        status = publish.main(list(words))
+        status = PUBLISH.main(list(words))
     if status != 0:
         raise Failed(f"publish {' '.join(words)}: {warned.getvalue()}")
     return said.getvalue().splitlines()

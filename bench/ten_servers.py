@@ -39,8 +39,7 @@ from codenav.program import Program, Running
 from codenav.progress import Quiet
 from codenav.sets.publish.publish import Publish
 from codenav.sets.publish.store import Store
-from codenav.sets.split import split
-from codenav.sets.split.split import SplitOptions
+from codenav.sets.split.split import SplitOptions, split
 from codenav.sets.surface.made import SurfaceFiles, made_surface
 from sets import children_seconds, processor_seconds, stage
 

@@ -10,7 +10,7 @@ from contextlib import redirect_stderr, redirect_stdout
 
 from codenav.cli.ask import ASK
 from codenav.cli.prepare import PREPARE
-from codenav.client import upload
+from codenav.cli.upload import UPLOAD
 from codenav.client.fetch import fetch_from
 from codenav.texts import places
 from tests.servers import TOP, OnServer
@@ -30,8 +30,8 @@ class Asking(OnServer):
         dump = os.path.join(self.folder, "dump")
         with redirect_stdout(io.StringIO()), redirect_stderr(io.StringIO()):
             self.assertEqual(PREPARE.main([RAW, dump]), 0)
-            self.assertEqual(upload.main("lsif", [self.url, "app", dump]), 0)
-            self.assertEqual(upload.main("tags", [self.url, "app", TAGS]), 0)
+            self.assertEqual(UPLOAD.main([self.url, "app", dump]), 0)
+            self.assertEqual(UPLOAD.main([self.url, "app", TAGS]), 0)
 
     def asked(self, *words: str) -> tuple[int, str, str]:
         """The status, what was printed, and what was said as an error."""
@@ -85,7 +85,7 @@ class Asking(OnServer):
             with self.subTest(what, profile=profile):
                 words = ["--profile", profile, self.url, "app", dump]
                 with redirect_stdout(io.StringIO()), redirect_stderr(io.StringIO()):
-                    self.assertEqual(upload.main("lsif", words), 0)
+                    self.assertEqual(UPLOAD.main(words), 0)
                 words = ["--map", f"{ROOT}={CRATE}", self.url, "app", what, file, "1", "1"]
                 self.assertEqual(self.asked(*words), (1, "", NOT_MAPPED + said))
 

@@ -13,8 +13,8 @@ from codenav.cli.ask import ASK
 from codenav.cli.explain import EXPLAIN, WHY
 from codenav.cli.prepare import PREPARE
 from codenav.cli.projects import LIST, REMOVE
-from codenav.client import upload
-from codenav.publishing import publish
+from codenav.cli.publish import PUBLISH
+from codenav.cli.upload import UPLOAD
 from tests.servers import TOP
 from tests.test_client import FOUND, Peer, environment, head_of, sends, status
 
@@ -87,8 +87,8 @@ class Files(unittest.TestCase):
             for tool, main, words in (
                 ("codenav prepare", PREPARE.main, [path, out]),
                 (
-                    "publish",
-                    publish.main,
+                    "codenav publish",
+                    PUBLISH.main,
                     ["--dry-run", "--no-tags", "--dump", path, "http://h", "app", crate],
                 ),
             ):
@@ -143,14 +143,14 @@ class Files(unittest.TestCase):
                 "--map takes URI=FOLDER",
             ),
             (
-                "upload-lsif",
-                lambda words: upload.main("lsif", words),
+                "codenav upload",
+                UPLOAD.main,
                 ["http://h", "app", self.folder],
                 "Is a directory",
             ),
             (
-                "upload-tags",
-                lambda words: upload.main("tags", words),
+                "codenav upload",
+                UPLOAD.main,
                 ["http://h", "app", "/no"],
                 "/no: No such file",
             ),
@@ -183,8 +183,7 @@ class Servers(unittest.TestCase):
                 ("ask", ASK.main, ["app", "definition", file, "18", "12"]),
                 ("list", LIST.main, []),
                 ("remove", REMOVE.main, ["app"]),
-                ("upload-lsif", lambda words: upload.main("lsif", words), ["app", RAW]),
-                ("upload-tags", lambda words: upload.main("tags", words), ["app", RAW]),
+                ("codenav upload", UPLOAD.main, ["app", RAW]),
             ]
             for tool, main, words in cases:
                 with self.subTest(tool, said=said), environment(), Peer(act) as peer:
@@ -202,10 +201,10 @@ class Servers(unittest.TestCase):
         words = ["--no-tags", "--dump", RAW]
         with environment(PATH="/no"), Peer(projects_there, refusal) as peer:
             server = f"http://127.0.0.1:{peer.port}"
-            found = called(publish.main, *words, server, "app", CRATE)
+            found = called(PUBLISH.main, *words, server, "app", CRATE)
         self.assertEqual(found[:2], (2, ""), found)
         last = found[2].splitlines()[-1]
-        self.assertRegex(last, f"^publish: {server}: .*status 413, the proxy takes no body")
+        self.assertRegex(last, f"^codenav publish: {server}: .*status 413, the proxy takes no body")
 
 
 if __name__ == "__main__":

@@ -11,7 +11,7 @@ from unittest import mock
 
 from codenav.cli.ask import ASK
 from codenav.cli.prepare import PREPARE
-from codenav.client import upload
+from codenav.cli.upload import UPLOAD
 from tests.repository import InRepository, git_in
 from tests.servers import TOP, OnServer
 
@@ -42,7 +42,7 @@ class BadTexts(OnServer, InRepository):
         dump = os.path.join(self.home, "crate.lsif")
         with redirect_stdout(io.StringIO()), redirect_stderr(io.StringIO()):
             PREPARE.main([os.path.join(TOP, "demo", "crate.raw.lsif"), dump])
-            self.assertEqual(upload.main("lsif", [self.url, "app", dump]), 0)
+            self.assertEqual(UPLOAD.main([self.url, "app", dump]), 0)
 
     def fresh(self) -> str:
         """Makes the checkout anew; answers its commit."""

@@ -14,7 +14,7 @@ from codenav.browse.answers import Browser
 from codenav.browse.folder import Folder
 from codenav.cli.ask import ASK
 from codenav.cli.browse import BROWSE, browser_of
-from codenav.client import upload
+from codenav.cli.upload import UPLOAD
 from codenav.faults import NoReply
 from codenav.settings.found import FILE, Settings
 from codenav.texts.decoded import text_of
@@ -70,12 +70,12 @@ class OverTags(OnServer):
             os.makedirs(os.path.dirname(path), exist_ok=True)
             with open(path, "w", encoding="utf-8") as file:
                 file.write(text)
-        self.put("tags", "app", os.path.join(self.folder, "tags"))
+        self.put("app", os.path.join(self.folder, "tags"))
 
-    def put(self, kind: str, *words: str) -> None:
+    def put(self, *words: str) -> None:
         """Uploads a dump or tags."""
         with redirect_stdout(io.StringIO()):
-            self.assertEqual(upload.main(kind, [self.url, *words]), 0)
+            self.assertEqual(UPLOAD.main([self.url, *words]), 0)
 
     def asked(self, project: str, what: str, *words: str) -> tuple[int, list[str], str]:
         """The status of `ask`, and what it prints on both outputs, from the folder on."""

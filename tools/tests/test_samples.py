@@ -19,7 +19,7 @@ from google.protobuf import json_format
 
 from codenav.cli.ask import ASK
 from codenav.cli.prepare import PREPARE
-from codenav.client import upload
+from codenav.cli.upload import UPLOAD
 from codenav.dumps.scip.scip_pb2 import Index
 from codenav.program import Program
 from tests.accepted import fault
@@ -86,7 +86,7 @@ class Samples(unittest.TestCase):
                 for sample in group:
                     out = self.accept(sample, folder)
                     words = ["--profile", "2", url, project_of(sample), out]
-                    self.assertEqual(called(upload, words, "lsif")[0], 0, sample["sample"])
+                    self.assertEqual(called(UPLOAD, words)[0], 0, sample["sample"])
                 for sample in group:
                     for question in sample["questions"]:
                         with self.subTest(sample["sample"], **question):

@@ -158,9 +158,10 @@ class SplitIndex(unittest.TestCase):
         with redirect_stderr(io.StringIO()):
             PREPARE.main([self.index, self.dump])
         files: list[dict[str, bytes]] = []
-        for number, split in enumerate((split_file, split_index)):
-            folder = os.path.join(self.folder, str(number))
-            split((self.dump, self.index)[number], folder, "code", elements=4000)
+        folders = [os.path.join(self.folder, name) for name in ("of_dump", "of_index")]
+        split_file(self.dump, folders[0], "code", elements=4000)
+        split_index(self.index, folders[1], "code", elements=4000)
+        for folder in folders:
             files.append({})
             for name in os.listdir(folder):
                 with open(os.path.join(folder, name), "rb") as file:

@@ -15,11 +15,11 @@ from unittest import mock
 
 from codenav.cli.ask import ASK
 from codenav.cli.prepare import PREPARE
+from codenav.cli.publish import PUBLISH
 from codenav.faults import NoReply
 from codenav.limits import MOST_ELEMENTS
 from codenav.program import Program, Running, free_port
 from codenav.progress import Quiet
-from codenav.publishing import publish
 from codenav.sets.manifest import PartEntry
 from codenav.sets.publish.claim import Claim, Late, claimed
 from codenav.sets.publish.publish import Publish, remove_set
@@ -339,7 +339,7 @@ class Called(OnServers):
         folder = os.path.join(self.folder, crate)
         os.makedirs(folder, exist_ok=True)
         call = ["--no-tags", "--dump", dump, *words, self.front.url, name, folder]
-        return self.call(publish.main, *call)
+        return self.call(PUBLISH.main, *call)
 
     def settings(self, text: str) -> None:
         """Writes the settings of the folder of a crate."""
@@ -408,7 +408,7 @@ class Called(OnServers):
         self.assertEqual([len(self.on(server)) for server in self.servers], [3, 0, 0])
         status, _, warned = self.publish(user, "user", *words)
         self.assertEqual(status, 0, warned)
-        line = f"publish: publish {code} again: it's joined to {user}, and its surface isn't at {self.servers[1]}"
+        line = f"codenav publish: publish {code} again: it's joined to {user}, and its surface isn't at {self.servers[1]}"
         self.assertIn(line, warned.splitlines())
         status, _, warned = self.publish(code, "crate", *words)
         self.assertEqual((status, "again" in warned), (0, False))
@@ -429,12 +429,12 @@ class Called(OnServers):
         ):
             status, said, warned = self.publish(own, "crate", "--servers", servers)
             self.assertEqual((status, said), (2, ""), warned)
-            self.assertRegex(warned.splitlines()[-1], f"^publish: .*{line}")
+            self.assertRegex(warned.splitlines()[-1], f"^codenav publish: .*{line}")
             left = {project for server in self.servers for project in self.on(server)}
             self.assertLessEqual(left, {f"{name}-claim"})
         status, _, warned = self.publish(name, "crate", "--servers-that-join")
         self.assertEqual((status, warned.count("\n")), (2, 1), warned)
-        self.assertRegex(warned, "^publish: --servers-that-join takes --servers")
+        self.assertRegex(warned, "^codenav publish: --servers-that-join takes --servers")
         self.settings("servers = [1, 2]\n")
         status, said, warned = self.publish(name, "user")
         self.assertEqual((status, warned.count("\n")), (2, 1), warned)

@@ -13,9 +13,10 @@ from urllib.parse import quote
 
 from codenav.cli.ask import ASK
 from codenav.cli.prepare import PREPARE
+from codenav.cli.upload import UPLOAD
 from codenav.client import fetch
 from codenav.client import http as client
-from codenav.client import upload
+from codenav.client import projects
 from codenav.client.http import Answer
 from codenav.dumps.tables import rows
 from codenav.texts import places
@@ -546,7 +547,7 @@ class Ask(unittest.TestCase):
 
 class Upload(unittest.TestCase):
     def test_keys(self) -> None:
-        fresh = {upload.fresh_key("lsif") for _ in range(100)}
+        fresh = {projects.fresh_key("lsif") for _ in range(100)}
         self.assertEqual(len(fresh), 100)
         for key in fresh:
             self.assertRegex(key, r"^lsif-[0-9a-f]{32}$")
@@ -558,13 +559,12 @@ class Upload(unittest.TestCase):
             (b"abc", "lsif", "2", f"lsif-2-{abc}"),
             (b"abc", "tags", "1", f"tags-{abc}"),
         ):
-            self.assertEqual(upload.once_key(part, io.BytesIO(body), profile), key)
+            self.assertEqual(projects.once_key(part, io.BytesIO(body), profile), key)
 
     def uploaded(
-        self, words: list[str], *answers: Answer, part: str = "tags"
+        self, words: list[str], *answers: Answer, body: bytes = b"a\tb\t1\n"
     ) -> tuple[int, list[tuple[Any, ...]], list[float]]:
-        """The status of an upload of `abc` whose requests are answered so; the requests, and the
-        waits."""
+        """The status of an upload whose requests are answered so; the requests, and the waits."""
         with tempfile.NamedTemporaryFile() as file, mock.patch.object(
             client, "request", side_effect=answers
         ) as request, mock.patch("time.sleep") as sleep, redirect_stdout(
@@ -572,9 +572,9 @@ class Upload(unittest.TestCase):
         ), redirect_stderr(
             io.StringIO()
         ):
-            file.write(b"abc")
+            file.write(body)
             file.flush()
-            status = upload.main(part, [*words, "http://127.0.0.1:1/", "app", file.name])
+            status = UPLOAD.main([*words, "http://127.0.0.1:1/", "app", file.name])
         return (
             status,
             [call.args[:2] for call in request.call_args_list],
@@ -583,14 +583,32 @@ class Upload(unittest.TestCase):
 
     def test_one_request(self) -> None:
         url, done = "http://127.0.0.1:1/projects/app/", Answer("", 200, b"{}")
-        for words, part, path in (
-            (["--once"], "tags", "tags?key=tags-ba7816bf8f01cfea414140de5dae2223"),
-            (["--key", "k1"], "tags", "tags?key=k1"),
-            (["--key", "k1", "--profile", "2"], "lsif", "lsif?key=k1&profile=2"),
+        tags, dump = b"a\tb\t1\n", b"{}\n"
+        for words, body, path in (
+            (["--once"], tags, f"tags?key={projects.once_key('tags', io.BytesIO(tags), '1')}"),
+            (["--key", "k1"], tags, "tags?key=k1"),
+            (["--key", "k1", "--profile", "2"], tags, "tags?key=k1"),
+            (["--key", "k1"], dump, "lsif?key=k1"),
+            (["--key", "k1", "--profile", "2"], dump, "lsif?key=k1&profile=2"),
         ):
-            self.assertEqual(self.uploaded(words, done, part=part), (0, [(url + path, "PUT")], []))
+            self.assertEqual(self.uploaded(words, done, body=body), (0, [(url + path, "PUT")], []))
         (one,), (two,) = (self.uploaded([], done)[1] for _ in range(2))
         self.assertNotEqual(one, two)
+
+    def test_what_a_file_has(self) -> None:
+        """A dump or tags are known by their beginnings; what's neither is refused without a
+        request."""
+        for body, said in (
+            (b"", "neither a dump nor a tags file"),
+            (b"<html>\n<a>\t</a>", "neither a dump nor a tags file"),
+            (b"\x0a\x05\x0a\x03a\tb", "a SCIP index: `codenav prepare` makes the dump"),
+            (b"\x1f\x8b\x08", "packed: `codenav prepare` makes the dump"),
+        ):
+            with tempfile.NamedTemporaryFile() as file, redirect_stderr(io.StringIO()) as warned:
+                file.write(body)
+                file.flush()
+                status = UPLOAD.main(["http://127.0.0.1:1", "app", file.name])
+            self.assertEqual((status, said in warned.getvalue()), (2, True), warned.getvalue())
 
     def test_sending_again(self) -> None:
         done, refused = Answer("", 200, b"{}"), Answer("", 0, fault="refused", may_come=True)
@@ -635,7 +653,7 @@ class Upload(unittest.TestCase):
         ):
             with redirect_stderr(io.StringIO()) as said:
                 self.assertEqual(
-                    (upload.main("lsif", words), said.getvalue()), (2, f"upload-lsif: {message}\n")
+                    (UPLOAD.main(words), said.getvalue()), (2, f"codenav upload: {message}\n")
                 )
 
 

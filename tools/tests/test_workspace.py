@@ -13,7 +13,7 @@ from typing import Any
 
 from codenav.asking.workspace import Workspace
 from codenav.cli.prepare import PREPARE
-from codenav.client import upload
+from codenav.cli.upload import UPLOAD
 from codenav.faults import BadCall
 from codenav.settings.found import FILE, Settings, settings_in
 from codenav.texts import places
@@ -180,7 +180,7 @@ class OnCheckouts(OnServer, InRepository):
             raw = os.path.join(TOP, "demo", f"{name}.raw.lsif")
             with redirect_stdout(io.StringIO()), redirect_stderr(io.StringIO()):
                 self.assertEqual(PREPARE.main([raw, dump]), 0)
-                self.assertEqual(upload.main("lsif", [self.url, project, dump]), 0)
+                self.assertEqual(UPLOAD.main([self.url, project, dump]), 0)
         for folder, _, names in os.walk(self.home):
             for name in names:
                 if name.endswith(".rs"):

@@ -29,7 +29,7 @@ class UploadCall:
     """What `upload` is told."""
 
     retry: bool = False
-    key: str = ""
+    key: Optional[str] = None
     once: bool = False
     profile: Optional[str] = None
     revision: Optional[str] = None
@@ -78,7 +78,7 @@ def part_of(file: IO[bytes], name: str) -> str:
         raise BadCall(f"{name}: {what}: `codenav prepare` makes the dump that the server takes")
     if head.lstrip()[:1] in (b"{", b"["):
         return "lsif"
-    if head and b"\t" not in head.partition(b"\n")[0]:
+    if b"\t" not in head.partition(b"\n")[0]:
         raise BadCall(f"{name}: neither a dump nor a tags file")
     return "tags"
 
@@ -90,7 +90,7 @@ def upload_file(call: UploadCall, server: str, project: str, path: str) -> int:
     with opened(path) as file:
         part = part_of(file, name)
         profile = call.profile if part == "lsif" else None
-        key = key_of(call.key) if call.key else fresh_key(part)
+        key = fresh_key(part) if call.key is None else key_of(call.key)
         if call.once:
             key = once_key(part, file, profile or "1")
         answer, over = put_body(server, Body(project, part, name, profile), file, key, call.retry)
@@ -106,7 +106,7 @@ def upload_file(call: UploadCall, server: str, project: str, path: str) -> int:
 
 def upload_files(call: UploadCall, server: str, project: str, paths: list[str]) -> int:
     """Uploads files one after the other, up to one that isn't accepted."""
-    if call.key and len(paths) > 1:
+    if call.key is not None and len(paths) > 1:
         raise BadCall("--key is for one file")
     commit, fault = indexed_at(os.curdir, call.revision) if call.revision else ("", "")
     status = 0
