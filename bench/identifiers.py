@@ -16,9 +16,9 @@ sys.path.insert(
 from importlib.machinery import SourceFileLoader
 from importlib.util import module_from_spec, spec_from_loader
 
-from codenav.client import upload
+from codenav.cli.upload import UPLOAD
 from codenav.faults import NoReply
-from codenav.program import serving
+from codenav.program import Program
 from codenav.texts.places import lines_of
 
 TOP = os.path.dirname(os.path.dirname(os.path.abspath(__file__)))
@@ -43,12 +43,13 @@ def main() -> int:
     """Reads the command line."""
     if len(sys.argv) < 3:
         sys.exit(__doc__)
-    with serving(sys.argv[1], quiet=True) as url:
+    with Program(sys.argv[1]).serve() as server:
+        url = server.url
         for pair in sys.argv[2:]:
             crate, _, dumps = pair.partition("=")
             for number, dump in enumerate(dumps.split(",")):
                 project = f"p{number}"
-                if upload.main("lsif", ["--profile", "2", url, project, dump]) != 0:
+                if UPLOAD.main(["--profile", "2", url, project, dump]) != 0:
                     sys.exit(f"{dump} isn't accepted")
                 counts: Counter[str] = Counter()
                 for path in files_of(crate):

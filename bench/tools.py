@@ -14,7 +14,8 @@ TOP = pathlib.Path(__file__).resolve().parent.parent
 sys.path.insert(0, str(TOP / "tools"))
 
 from codenav.client.http import address, found_in, request
-from codenav.program import Failed, serving
+from codenav.faults import Failed
+from codenav.program import Program
 
 CALLS = 40
 ROOT = "file:///src/tr/crate"
@@ -58,7 +59,8 @@ def main() -> int:
     program, count = sys.argv[1], int(sys.argv[2]) if len(sys.argv) > 2 else CALLS
     walls: dict[str, list[float]] = {}
     used: dict[str, list[float]] = {}
-    with tempfile.TemporaryDirectory() as folder, serving(program, quiet=True) as url:
+    with tempfile.TemporaryDirectory() as folder, Program(program).serve() as server:
+        url = server.url
         # each tool is compiled once, as it is for its users
         os.environ.pop("PYTHONDONTWRITEBYTECODE", None)
         os.environ["PYTHONPYCACHEPREFIX"] = f"{folder}/compiled"

@@ -17,9 +17,7 @@ from urllib.parse import quote
 from codenav.cli.prepare import PREPARE
 from codenav.dumps.tables import graph
 from codenav.progress import Quiet
-from codenav.sets.split import crossing
-from codenav.sets.split import flat as flat_tables
-from codenav.sets.split import keys
+from codenav.sets.split import crossing, flattening, keys
 from codenav.sets.split.crossing import Cut, Shared
 from codenav.sets.split.flat import Flat
 from codenav.sets.split.flattening import flattened
@@ -304,7 +302,7 @@ FAULTS: dict[str, tuple[Any, str, Any]] = {
     ),
     "what no range has isn't shown": (Part, "found_by_mark", lambda part: None),
     "results that results lead to are left out": (
-        flat_tables,
+        flattening,
         "reached_from",
         lambda graph, result, most: ([], False, 0),
     ),

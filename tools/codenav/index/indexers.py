@@ -7,7 +7,7 @@ import time
 from typing import NamedTuple, Optional
 
 from codenav.faults import BadCall
-from codenav.progress import Stage
+from codenav.progress import Shows
 
 TAIL_LINES = 5
 POLL_SECONDS = 0.1
@@ -89,7 +89,7 @@ def tail_of(path: str) -> str:
     return " | ".join(lines[-TAIL_LINES:])
 
 
-def indexed(line: str, folder: str, project: str, work: str, stage: Stage) -> str:
+def indexed(line: str, folder: str, project: str, work: str, shows: Shows) -> str:
     """Calls an indexer in a checkout by a line of the shell; answers the file with what it wrote.
     Its own words stay in `index.log`."""
     out, printed, log = (
@@ -108,7 +108,7 @@ def indexed(line: str, folder: str, project: str, work: str, stage: Stage) -> st
         try:
             while run.poll() is None:
                 time.sleep(POLL_SECONDS)
-                stage.at(os.path.getsize(out if os.path.exists(out) else printed))
+                shows.at(os.path.getsize(out if os.path.exists(out) else printed))
         finally:
             if run.poll() is None:
                 run.terminate()

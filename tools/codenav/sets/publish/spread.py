@@ -14,7 +14,9 @@ from typing import Iterator, Optional
 
 from codenav.faults import BadCall, NoReply
 from codenav.sets.manifest import CLAIM, PACKAGE, PARTS, SURFACE, Head, package_of
-from codenav.sets.publish.publish import Claim, Publish, Store
+from codenav.sets.publish.claim import Claim
+from codenav.sets.publish.publish import Publish
+from codenav.sets.publish.store import Store
 from codenav.sets.surface.made import surface_file
 
 DIGITS = "-[0-9a-f]{16}"
