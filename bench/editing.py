@@ -28,7 +28,7 @@ from typing import Any, Iterator
 from servers import TOP
 from watched import tool
 
-from codenav.program import serving
+from codenav.program import Program
 from codenav.texts.places import uri_of
 from tests.repository import git_in
 from tests.test_explain import META, edge, span, vertex
@@ -162,7 +162,8 @@ def compared(found: Answers, wanted: Answers) -> Counter[str]:
 
 def print_answers(program: str) -> int:
     """Prints the counts with a map and without one; answers 1 where a place with a map is wrong."""
-    with tempfile.TemporaryDirectory() as held, serving(program, quiet=True) as url:
+    with tempfile.TemporaryDirectory() as held, Program(program).serve() as server:
+        url = server.url
         folder = os.path.realpath(held)
         commit, words = indexed(url, folder)
         before = {
@@ -305,7 +306,8 @@ def print_times(program: str) -> int:
     print("| Lines | a question, without and with a map, ms | the first after a change, ms |")
     print("|-|-|-|")
     for length in 200, 2_000, 20_000:
-        with tempfile.TemporaryDirectory() as held, serving(program, quiet=True) as url:
+        with tempfile.TemporaryDirectory() as held, Program(program).serve() as server:
+            url = server.url
             folder = os.path.realpath(held)
             path, dump = os.path.join(folder, "a.rs"), os.path.join(folder, "dump")
             text = functions(length)

@@ -12,9 +12,9 @@ from importlib.util import module_from_spec, spec_from_loader
 
 from servers import TOP
 
-from codenav.client import upload
+from codenav.cli.upload import UPLOAD
 from codenav.faults import NoReply
-from codenav.program import serving
+from codenav.program import Program
 from codenav.texts.places import lines_of
 
 LOADER = SourceFileLoader("scip_and_lsif", os.path.join(TOP, "tools", "tests", "scip_and_lsif"))
@@ -38,12 +38,13 @@ def main() -> int:
     """Reads the command line."""
     if len(sys.argv) < 3:
         sys.exit(__doc__)
-    with serving(sys.argv[1], quiet=True) as url:
+    with Program(sys.argv[1]).serve() as server:
+        url = server.url
         for pair in sys.argv[2:]:
             crate, _, dumps = pair.partition("=")
             for number, dump in enumerate(dumps.split(",")):
                 project = f"p{number}"
-                if upload.main("lsif", ["--profile", "2", url, project, dump]) != 0:
+                if UPLOAD.main(["--profile", "2", url, project, dump]) != 0:
                     sys.exit(f"{dump} isn't accepted")
                 counts: Counter[str] = Counter()
                 for path in files_of(crate):

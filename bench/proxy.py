@@ -17,7 +17,7 @@ import os
 import subprocess
 import sys
 import tempfile
-from contextlib import redirect_stderr, redirect_stdout
+from contextlib import ExitStack, redirect_stderr, redirect_stdout
 from io import StringIO
 from typing import Any, Callable, Optional
 from urllib.parse import parse_qsl, urlencode
@@ -25,10 +25,11 @@ from urllib.parse import parse_qsl, urlencode
 from servers import ask, least_times, nginx
 from watched import Lines
 
-from codenav.asking.index import Asked as Index
-from codenav.asking.questions import fetch_from
-from codenav.program import Failed, ended, free_port, started
-from codenav.publishing import publish
+from codenav.asking.index import Index
+from codenav.cli.publish import PUBLISH
+from codenav.client.fetch import fetch_from
+from codenav.faults import Failed
+from codenav.program import Program, free_port
 from tests.fronts import NOBODY, USER, Front, fronted, lacking
 
 PROJECTS = [f"project_{number}" for number in range(30)]
@@ -176,7 +177,7 @@ def publish_all(front: Front, servers: list[str], kept: Optional[str] = None) ->
         words = ["--servers", ",".join(servers), "--no-tags", "--dump", path]
         words += ["--keep", f"{kept}/{project}"] if kept else []
         with redirect_stdout(StringIO()), redirect_stderr(StringIO()) as said:
-            status = publish.main([*words, front.url, project, folder])
+            status = PUBLISH.main([*words, front.url, project, folder])
         if status != 0:
             raise Failed(f"publish {project}: {said.getvalue()}")
 
@@ -221,42 +222,37 @@ def measure(one: Asked, proxy: Asked, fixed: int) -> None:
 
 def by_haproxy(program: str, folder: str) -> None:
     """Starts other servers behind nginx and HAProxy, and compares the sets on these."""
-    ports, servers = [free_port() for _ in range(SERVERS + 1)], []
+    ports = [free_port() for _ in range(SERVERS + 1)]
     os.mkdir(f"{folder}/front")
     places = [*(f"127.0.0.1:{port}" for port in ports[1:]), NOBODY]
-    try:
+    with ExitStack() as stack:
         for port in ports:
-            servers.append(started(program, port, 1_000_000))
-        with fronted("haproxy", f"{folder}/front", places) as front:
-            print("by nginx and HAProxy:")
-            put_all(by_port(ports[0]), None)
-            # nginx picks by the address of the HAProxy before each server
-            queues = [front.queue, *front.more_queues]
-            compare_spread(by_port(ports[0]), front, [f"http://127.0.0.1:{at}" for at in queues])
-    finally:
-        for server in servers:
-            ended(server)
+            stack.enter_context(Program(program).serve(port=port))
+        front = stack.enter_context(fronted("haproxy", f"{folder}/front", places))
+        print("by nginx and HAProxy:")
+        put_all(by_port(ports[0]), None)
+        # nginx picks by the address of the HAProxy before each server
+        queues = [front.queue, *front.more_queues]
+        compare_spread(by_port(ports[0]), front, [f"http://127.0.0.1:{at}" for at in queues])
 
 
 def run(program: str, folder: str) -> None:
     """Starts the servers and the front, and compares."""
-    ports, plain, servers = [free_port() for _ in range(SERVERS + 1)], free_port(), []
+    ports, plain = [free_port() for _ in range(SERVERS + 1)], free_port()
     # the last is the place for turns, which a front before several machines hasn't
     places = [*(f"127.0.0.1:{port}" for port in ports[1:]), NOBODY]
     os.mkdir(f"{folder}/front")
-    try:
+    with ExitStack() as stack:
         for port in ports:
-            servers.append(started(program, port, 1_000_000))
-        with fronted("lua", f"{folder}/front", places) as front, nginx(folder, plain):
-            one, proxy = by_port(ports[0]), by_front(front)
-            put_all(one, proxy)
-            compare(one, proxy, homes(ports[1:]))
-            compare_names(one, proxy, ports[1:])
-            measure(one, proxy, plain)
-            compare_spread(one, front, [f"http://{place}" for place in places[:-1]])
-    finally:
-        for server in servers:
-            ended(server)
+            stack.enter_context(Program(program).serve(port=port))
+        front = stack.enter_context(fronted("lua", f"{folder}/front", places))
+        stack.enter_context(nginx(folder, plain))
+        one, proxy = by_port(ports[0]), by_front(front)
+        put_all(one, proxy)
+        compare(one, proxy, homes(ports[1:]))
+        compare_names(one, proxy, ports[1:])
+        measure(one, proxy, plain)
+        compare_spread(one, front, [f"http://{place}" for place in places[:-1]])
 
 
 def main() -> int:

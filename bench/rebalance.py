@@ -12,7 +12,6 @@ usage: bench/rebalance.py [PROGRAM [lua|haproxy]]  (the built program, without i
 import os
 import pathlib
 import random
-import subprocess
 import sys
 import tempfile
 import threading
@@ -25,11 +24,11 @@ from urllib.parse import parse_qsl
 
 from proxy import Asked, as_set, by_port, publish_all, put_all, queries
 
-from codenav.asking.index import Asked as Index
-from codenav.asking.questions import fetch_from
-from codenav.faults import NoReply
-from codenav.program import Failed, ended, free_port, started
-from codenav.publishing import publish
+from codenav.asking.index import Index
+from codenav.cli.publish import PUBLISH
+from codenav.client.fetch import fetch_from
+from codenav.faults import Failed, NoReply
+from codenav.program import Program, Running, free_port
 from codenav.sets.ring import home_of
 from tests.fronts import KINDS, NOBODY, Front, adding, fronted, host_of, lacking
 
@@ -39,7 +38,6 @@ MANY = 8
 SECONDS = 60
 # how long a front holds a request while its server is away: 600 s in packaging/front
 LONGEST = 10
-REQUESTS = 1_000_000
 TOP = pathlib.Path(__file__).resolve().parent.parent
 
 
@@ -97,7 +95,7 @@ class Load:
 def called(*words: str) -> list[str]:
     """Calls `publish`, which ends with 0; answers what it prints."""
     with redirect_stdout(StringIO()) as said, redirect_stderr(StringIO()) as warned:
-        status = publish.main(list(words))
+        status = PUBLISH.main(list(words))
     if status != 0:
         raise Failed(f"publish {' '.join(words)}: {warned.getvalue()}")
     return said.getvalue().splitlines()
@@ -116,14 +114,14 @@ class Trial:
         self.front = stack.enter_context(fronted(kind, f"{folder}/front", places, longest=LONGEST))
         self.kept = f"{folder}/kept"
 
-    def start(self, port: int) -> "subprocess.Popen[bytes]":
+    def start(self, port: int) -> Running:
         """Starts a server over its file."""
-        return started(self.program, port, REQUESTS, f"{self.folder}/{port}.db", quiet=True)
+        return Program(self.program).serve(f"{self.folder}/{port}.db", port)
 
     def end(self) -> None:
         """Ends the servers that still run."""
         for server in self.running.values():
-            ended(server)
+            server.end()
 
     def servers(self) -> list[str]:
         """The three servers and the fourth, as the front names them."""
@@ -191,7 +189,6 @@ def lose(trial: Trial, questions: list[Question]) -> None:
     servers, port = trial.servers()[:SERVERS], trial.ports[2]
     lost = servers[1]
     trial.running[port].kill()
-    trial.running[port].wait()
     for path in pathlib.Path(trial.folder).glob(f"{port}.db*"):
         path.unlink()
     begin = time.monotonic()

@@ -11,7 +11,6 @@ that was filled, of which it reads and checks all; beside SQLite's `integrity_ch
 """
 
 import argparse
-import io
 import itertools
 import math
 import pathlib
@@ -21,8 +20,7 @@ import subprocess
 import sys
 import tempfile
 import time
-from contextlib import contextmanager, redirect_stdout
-from typing import Callable, Iterator
+from typing import Callable
 from urllib.parse import urlencode
 
 import inputs
@@ -30,7 +28,8 @@ from proxy import PROJECTS as NAMES
 from proxy import dump
 from servers import TOP, ask, least_times, nginx, resident_bytes
 
-from codenav.program import Failed, ended, free_port, started
+from codenav.faults import Failed
+from codenav.program import Program, free_port
 
 PROJECTS = 8
 TAGGED = {"memory": 1, "file": 8}
@@ -38,17 +37,6 @@ QUERIES = 80
 TURNS = 5
 STARTS = 3
 KEYS = itertools.count()
-
-
-@contextmanager
-def serving(program: str, database: str) -> Iterator[tuple["subprocess.Popen[bytes]", int]]:
-    """A server over a database, with its port; it ends with the context."""
-    port = free_port()
-    server = started(program, port, 1_000_000, database)
-    try:
-        yield server, port
-    finally:
-        ended(server)
 
 
 def query(port: int, path: str, **parameters: object) -> Callable[[], object]:
@@ -169,11 +157,9 @@ def start_seconds(program: str, databases: list[str]) -> float:
     """The least time from a program's start until it listens, over these databases in turn."""
     found = []
     for database in databases:
-        port, begin = free_port(), time.perf_counter()
-        with redirect_stdout(io.StringIO()):
-            server = started(program, port, 1, database)
-        found.append(time.perf_counter() - begin)
-        ended(server)
+        begin = time.perf_counter()
+        with Program(program).serve(database, requests=1):
+            found.append(time.perf_counter() - begin)
     return min(found)
 
 
@@ -224,12 +210,12 @@ def measure(program: str, folder: pathlib.Path) -> None:
     that file."""
     small, great, tags = TOP / "demo" / "base.lsif", folder / "great.lsif", folder / "great.tags"
     database, plain = folder / "index.db", free_port()
-    with tempfile.TemporaryDirectory() as held, nginx(held, plain), serving(
-        program, ":memory:"
-    ) as memory, serving(program, str(database)) as file:
-        ports = {"memory": memory[1], "file": file[1]}
+    with tempfile.TemporaryDirectory() as held, nginx(held, plain), Program(
+        program
+    ).serve() as memory, Program(program).serve(str(database)) as file:
+        ports = {"memory": memory.port, "file": file.port}
         sizes = {
-            "memory": lambda: resident_bytes(memory[0].pid),
+            "memory": lambda: resident_bytes(memory.pid),
             "file": lambda: file_bytes(database),
         }
         for where, port in ports.items():
@@ -238,16 +224,19 @@ def measure(program: str, folder: pathlib.Path) -> None:
             measure_growth(where, sizes[where], port, "lsif", great.read_bytes(), PROJECTS)
             measure_growth(where, sizes[where], port, "tags", tags.read_bytes(), TAGGED[where])
         print(
-            f"file: {database.stat().st_size} bytes, its log {log_of(database).stat().st_size}; the program over it holds {resident_bytes(file[0].pid)} bytes in memory"
+            f"file: {database.stat().st_size} bytes, its log {log_of(database).stat().st_size}; the program over it holds {resident_bytes(file.pid)} bytes in memory"
         )
         filled = copied(database, folder / "filled.db")
         for where, port in ports.items():
             measure_queries(where, port, plain)
             measure_puts(program, where, port, [small, folder / "middle.lsif", great])
     measure_starts(program, filled)
-    with serving(program, ":memory:") as fresh:
+    with Program(program).serve() as fresh:
         measure_puts(
-            program, "memory, nothing else in it", fresh[1], [small, folder / "middle.lsif", great]
+            program,
+            "memory, nothing else in it",
+            fresh.port,
+            [small, folder / "middle.lsif", great],
         )
 
 

@@ -27,11 +27,12 @@ from typing import Any, Iterator
 import servers  # noqa: F401  (the path of the tools)
 from watched import tool
 
-from codenav.asking.index import Asked
+from codenav.asking.index import Index
 from codenav.client import http as client
 from codenav.client.http import found_in, request
-from codenav.program import ended, free_port, started
-from codenav.sets.manifest import MANIFEST, Head, read_documents, read_head
+from codenav.program import Program, Running, free_port
+from codenav.sets.files import MANIFEST, read_documents, read_head
+from codenav.sets.manifest import Head
 
 TICKS = os.sysconf("SC_CLK_TCK")
 KINDS = {"definition": "places", "references": "places", "hover": "contents"}
@@ -167,7 +168,7 @@ class Asking:
     users: dict[str, set[str]] = field(default_factory=dict)
 
     def __post_init__(self) -> None:
-        self.asked = Asked(self.name, self.fetch)
+        self.asked = Index(self.name, self.fetch)
 
     def fetch(self, path: str, parameters: dict[str, Any], member: str) -> Any:
         """What the server answers."""
@@ -290,10 +291,10 @@ def print_size(database: str) -> None:
     print(f"database and log {sum(map(os.path.getsize, files_of(database))) >> 20} MB", flush=True)
 
 
-def started_again(program: str, port: int, database: str) -> subprocess.Popen[bytes]:
+def started_again(program: str, port: int, database: str) -> Running:
     """Starts a server over a database, and prints what that takes."""
     began = time.monotonic()
-    server = started(program, port, 1_000_000, database)
+    server = Program(program).serve(database, port)
     print(
         f"a start over it {time.monotonic() - began:.1f} s, "
         f"processor {processor_seconds(server.pid):.1f} s, {most_memory(server.pid)} MB",
@@ -308,7 +309,7 @@ def measured(program: str, large: str, small: str, count: int, folder: str) -> N
     database = os.path.join(folder, "index.db")
     for path in files_of(database):
         os.unlink(path)
-    server = started(program, port, 1_000_000, database)
+    server = Program(program).serve(database, port)
     url = f"http://127.0.0.1:{port}"
     folders = {name: os.path.join(folder, name) for name in ("small", "large")}
     for (name, own), path in zip(folders.items(), (small, large)):
@@ -318,12 +319,12 @@ def measured(program: str, large: str, small: str, count: int, folder: str) -> N
         print_size(database)
     askings = [Asking(url, name, points_of(own, count)) for name, own in folders.items()]
     asked_in_turns(askings[0], askings[1], server.pid)
-    ended(server)
+    server.end()
     server = started_again(program, port, database)
     again = changed(large, folders["large"], askings[1].most_used(), server.pid)
     published("large again", url, again, server.pid)
     print_size(database)
-    ended(server)
+    server.end()
 
 
 def main() -> None:

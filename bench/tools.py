@@ -16,7 +16,8 @@ from servers import TOP
 from watched import tool
 
 from codenav.client.http import address, found_in, request
-from codenav.program import Failed, serving
+from codenav.faults import Failed
+from codenav.program import Program
 
 CALLS = 40
 ROOT = "file:///src/tr/crate"
@@ -65,7 +66,8 @@ def main() -> int:
     given = options.parse_args()
     walls: dict[str, list[float]] = {}
     used: dict[str, list[float]] = {}
-    with tempfile.TemporaryDirectory() as folder, serving(given.program, quiet=True) as url:
+    with tempfile.TemporaryDirectory() as folder, Program(given.program).serve() as server:
+        url = server.url
         # each tool is compiled once, as it is for its users
         os.environ.pop("PYTHONDONTWRITEBYTECODE", None)
         os.environ["PYTHONPYCACHEPREFIX"] = f"{folder}/compiled"

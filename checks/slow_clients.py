@@ -21,7 +21,7 @@ from contextlib import ExitStack
 
 from load import AT, Client, Place, Seen, equals, hover_dump, prepared, read
 
-from codenav.program import serving
+from codenav.program import Program
 from tests.fronts import KINDS, USER, authorization, fronted, host_of, lacking
 
 MOST = 0.5
@@ -105,7 +105,7 @@ def trial(program: str, kind: str, slow: str, seconds: float) -> Seen:
     """What the readers saw beside one kind of slow client."""
     with ExitStack() as stack:
         folder = stack.enter_context(tempfile.TemporaryDirectory())
-        url = stack.enter_context(serving(program, quiet=True))
+        url = stack.enter_context(Program(program).serve()).url
         place = Place(int(url.rpartition(":")[2]))
         expected = asyncio.run(prepared(place, "slow"))
         asyncio.run(put_long(place))

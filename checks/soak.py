@@ -23,7 +23,7 @@ from contextlib import ExitStack
 from load import AT, Client, Place, Seen, hover_dump
 from watched import FIRST_LINES, SECONDS, tool
 
-from codenav.program import free_port, serving
+from codenav.program import Program, free_port
 from codenav.service.folder import serving_of
 from tests.fronts import Front, fronted, lacking
 
@@ -190,7 +190,7 @@ def trial(given: argparse.Namespace, stack: ExitStack) -> bool:
     ports = free_port(), free_port()
     servers = [f"127.0.0.1:{port}" for port in ports]
     front = stack.enter_context(fronted("lua", f"{base}/front", servers))
-    steady = stack.enter_context(serving(program, quiet=True))
+    steady = stack.enter_context(Program(program).serve()).url
     service = Service(program, f"{base}/service", front, ports)
     stack.callback(service.end)
     places = Place(front.port, front.context()), Place(int(steady.rpartition(":")[2]))

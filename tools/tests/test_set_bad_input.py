@@ -6,7 +6,7 @@ import subprocess
 import sys
 import unittest
 
-from codenav.sets.publish.publish import Store
+from codenav.sets.publish.store import Store
 from tests.servers import TOP
 from tests.test_set_service import CRATE, LIB, MAP, NAME, OnFile, Revisions
 
