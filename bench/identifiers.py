@@ -1,4 +1,3 @@
-#!/usr/bin/env python3
 """Asks a server for the definition at each identifier of crates, of dumps in two forms: how many
 are answered, how many by nothing but ranges over whole files, and how many not at all.
 
@@ -8,20 +7,16 @@ usage: bench/identifiers.py PROGRAM CRATE=DUMP[,DUMP] ..
 import os
 import sys
 from collections import Counter
-
-sys.path.insert(
-    0, os.path.join(os.path.dirname(os.path.dirname(os.path.abspath(__file__))), "tools")
-)
-
 from importlib.machinery import SourceFileLoader
 from importlib.util import module_from_spec, spec_from_loader
 
-from codenav.client import upload
+from servers import TOP
+
+from codenav.cli.upload import UPLOAD
 from codenav.faults import NoReply
-from codenav.program import serving
+from codenav.program import Program
 from codenav.texts.places import lines_of
 
-TOP = os.path.dirname(os.path.dirname(os.path.abspath(__file__)))
 LOADER = SourceFileLoader("scip_and_lsif", os.path.join(TOP, "tools", "tests", "scip_and_lsif"))
 SPEC = spec_from_loader("scip_and_lsif", LOADER)
 assert SPEC is not None
@@ -43,12 +38,13 @@ def main() -> int:
     """Reads the command line."""
     if len(sys.argv) < 3:
         sys.exit(__doc__)
-    with serving(sys.argv[1], quiet=True) as url:
+    with Program(sys.argv[1]).serve() as server:
+        url = server.url
         for pair in sys.argv[2:]:
             crate, _, dumps = pair.partition("=")
             for number, dump in enumerate(dumps.split(",")):
                 project = f"p{number}"
-                if upload.main("lsif", ["--profile", "2", url, project, dump]) != 0:
+                if UPLOAD.main(["--profile", "2", url, project, dump]) != 0:
                     sys.exit(f"{dump} isn't accepted")
                 counts: Counter[str] = Counter()
                 for path in files_of(crate):

@@ -1,4 +1,3 @@
-#!/usr/bin/env python3
 """Counts what `publish --servers-that-join` saves: dumps that depend on each other in part are
 published as sets over several servers, each at the home that the front's hash gives, and its
 surface to all other servers, or to those alone that have a set with a package in common.
@@ -19,18 +18,18 @@ import tempfile
 from contextlib import ExitStack
 from typing import Any, NamedTuple
 
-TOP = os.path.dirname(os.path.dirname(os.path.abspath(__file__)))
-sys.path.insert(0, os.path.join(TOP, "tools"))
-
 from sets import KINDS, points_of
 
-from codenav.asking.index import Asked
-from codenav.asking.questions import Fetch, fetch_from
-from codenav.program import Failed, serving
-from codenav.sets.publish.publish import Publish, Store
-from codenav.sets.publish.spread import Made, Spread, made_surface
+from codenav.asking.index import Index
+from codenav.client.fetch import Fetch, fetch_from
+from codenav.program import Program
+from codenav.progress import Quiet
+from codenav.sets.publish.publish import Publish
+from codenav.sets.publish.spread import Spread
+from codenav.sets.publish.store import Store
 from codenav.sets.ring import home_of
-from codenav.sets.split import split
+from codenav.sets.split.split import SplitOptions, split
+from codenav.sets.surface.made import SurfaceFiles, made_surface
 
 NUMBERS = 3, 5, 10, 30, 100
 PLACEMENTS = 100
@@ -46,7 +45,7 @@ class Crate(NamedTuple):
     name: str
     folder: str
     elements: int
-    surface: Made
+    surface: SurfaceFiles
     points: list[tuple[str, int, int]]
 
     def weight(self) -> int:
@@ -58,9 +57,8 @@ def crate_of(path: str, folder: str) -> Crate:
     """Splits a dump and makes its surface, below a folder."""
     name = os.path.basename(path).partition(".")[0].lower()
     own = os.path.join(folder, name)
-    if split.main(["--name", name, path, own]) != 0:
-        raise Failed(f"{path}: it can't be split")
-    surface = made_surface(path, name, "1", os.path.join(own, "surface"))
+    split(path, SplitOptions(name), own, Quiet())
+    surface = made_surface(path, name, "1", os.path.join(own, "surface"), Quiet())
     with open(path, "rb") as file:
         elements = sum(1 for _ in file)
     return Crate(name, own, elements, surface, points_of(own, MOST))
@@ -122,7 +120,7 @@ def answers_of(crates: list[Crate], servers: list[str]) -> Answers:
     """What the sets answer."""
     found, fetch = [], fetch_by_name(servers)
     for crate in crates:
-        index = Asked(crate.name, fetch)
+        index = Index(crate.name, fetch)
         for kind, member in KINDS.items():
             for uri, line, character in crate.points:
                 place = {"uri": uri, "line": line, "character": character}
@@ -204,7 +202,7 @@ def main(program: str, number: int, dumps: list[str]) -> int:
         crates = [crate_of(path, folder) for path in dumps]
         count_saving(crates)
         one, *others = [
-            stack.enter_context(serving(program, quiet=True)) for _ in range(number + 1)
+            stack.enter_context(Program(program).serve()).url for _ in range(number + 1)
         ]
         differ = compared(crates, one, others)
     return 1 if differ else 0

@@ -1,21 +1,35 @@
-"""Compares projects over three servers behind the front with the same projects on one server: see
-bench/proxy.sh."""
+"""Shows projects over several servers, beside the same projects on one server.
 
+Three `codenav serve` are behind the front of packaging/front/lua, which picks the server by a hash
+of the project's name in the path. Thirty projects, each of which exports a function and imports two
+others', are put through the front and to one server besides. Each definition, reference and hover
+is asked of both. The answers must be equal where no join leads to a project on another server;
+elsewhere the front's must be the other's without the places of such projects, which are counted.
+Then what a request costs: the least time of so many, by the one server, through the front, and of
+nginx alone with a fixed reply. Then all thirty are published as sets with their surfaces, and each
+query has to be answered as by the one server; so it is on three servers behind nginx and HAProxy.
+It needs Debian's nginx, libnginx-mod-http-lua and haproxy.
+"""
+
+import argparse
 import json
 import os
+import subprocess
 import sys
 import tempfile
-from contextlib import redirect_stderr, redirect_stdout
+from contextlib import ExitStack, redirect_stderr, redirect_stdout
 from io import StringIO
 from typing import Any, Callable, Optional
 from urllib.parse import parse_qsl, urlencode
 
 from servers import ask, least_times, nginx
+from watched import Lines
 
-from codenav.asking.index import Asked as Index
-from codenav.asking.questions import fetch_from
-from codenav.program import Failed, ended, free_port, started
-from codenav.publishing import publish
+from codenav.asking.index import Index
+from codenav.cli.publish import PUBLISH
+from codenav.client.fetch import fetch_from
+from codenav.faults import Failed
+from codenav.program import Program, free_port
 from tests.fronts import NOBODY, USER, Front, fronted, lacking
 
 PROJECTS = [f"project_{number}" for number in range(30)]
@@ -40,61 +54,24 @@ def by_front(front: Front) -> Asked:
     return asked
 
 
-def dump(number: int) -> str:
+def dump(number: int) -> bytes:
     """The dump of a project: it exports a function of its own name, and imports those of two
-    others. Ids are numbers of lines."""
-    lines: list[str] = []
-
-    def element(kind: str, label: str, /, **members: object) -> int:
-        lines.append(
-            json.dumps(
-                {"id": len(lines) + 1, "type": kind, "label": label, **members},
-                separators=(",", ":"),
-            )
-        )
-        return len(lines)
-
-    def span(line: int) -> int:
-        return element(
-            "vertex",
-            "range",
-            start={"line": line, "character": 0},
-            end={"line": line, "character": 9},
-        )
-
-    def moniker(vertex: int, kind: str, name: str) -> None:
-        own = element("vertex", "moniker", kind=kind, scheme="bench", identifier=f"{name}::run")
-        package = element("vertex", "packageInformation", name=name, manager="bench", version="1")
-        element("edge", "packageInformation", outV=own, inV=package)
-        element("edge", "moniker", outV=vertex, inV=own)
-
-    element("vertex", "metaData", version="0.6.0")
-    document = element("vertex", "document", uri=f"file:///{PROJECTS[number]}/main.rs")
-    own = span(0)
-    moniker(own, "export", PROJECTS[number])
-    result = element("vertex", "definitionResult")
-    element("edge", "textDocument/definition", outV=own, inV=result)
-    element("edge", "item", outV=result, inVs=[own], shard=document)
-    result = element("vertex", "hoverResult", result={"contents": f"run of {PROJECTS[number]}"})
-    element("edge", "textDocument/hover", outV=own, inV=result)
-    ranges = [own]
-    for line, step in (1, 7), (2, 13):
-        used = span(line)
-        moniker(used, "import", PROJECTS[(number + step) % len(PROJECTS)])
-        ranges.append(used)
+    others."""
+    own, project = Lines("shard"), PROJECTS[number]
+    own.vertex("metaData", ',"version":"0.6.0"')
+    file = own.vertex("document", f',"uri":"file:///{project}/main.rs"')
+    ranges = [own.range(line, 0, line, 9) for line in range(3)]
+    own.moniker(ranges[0], "export", project, f"{project}::run")
+    own.item(own.result("definition", ranges[0]), ranges[:1], file)
+    own.result("hover", ranges[0], f',"result":{{"contents":"run of {project}"}}')
+    for used, step in zip(ranges[1:], (7, 13)):
+        other = PROJECTS[(number + step) % len(PROJECTS)]
+        own.moniker(used, "import", other, f"{other}::run")
     for one in ranges:
-        result = element("vertex", "referenceResult")
-        element("edge", "textDocument/references", outV=one, inV=result)
-        element(
-            "edge",
-            "item",
-            outV=result,
-            inVs=[one],
-            shard=document,
-            property="definitions" if one == own else "references",
-        )
-    element("edge", "contains", outV=document, inVs=ranges)
-    return "".join(f"{line}\n" for line in lines)
+        prop = "definitions" if one == ranges[0] else "references"
+        own.item(own.result("references", one), [one], file, prop)
+    own.contains(file, ranges)
+    return own.text()
 
 
 def queries() -> list[tuple[str, str, str]]:
@@ -165,9 +142,9 @@ def put_all(one: Asked, proxy: Optional[Asked]) -> None:
     """Puts each project's dump and tags to one server, and by a proxy where there is one."""
     for number, project in enumerate(PROJECTS):
         tags = f'run\tmain.rs\t/^fn run() {{ {project} }}$/;"\tf\n'
-        for part, body in ("lsif", dump(number)), ("tags", tags):
+        for part, body in ("lsif", dump(number)), ("tags", tags.encode()):
             replies = [
-                asked("PUT", f"/projects/{project}/{part}?key=k_{part}", body.encode())
+                asked("PUT", f"/projects/{project}/{part}?key=k_{part}", body)
                 for asked in (one, proxy or one)
             ]
             if replies[0] != replies[1] or replies[0][0] != 200:
@@ -195,12 +172,12 @@ def publish_all(front: Front, servers: list[str], kept: Optional[str] = None) ->
     os.environ["CODENAV_USER"] = USER
     for number, project in enumerate(PROJECTS):
         path = f"{folder}/{project}.lsif"
-        with open(path, "w", encoding="utf-8") as out:
+        with open(path, "wb") as out:
             out.write(dump(number))
         words = ["--servers", ",".join(servers), "--no-tags", "--dump", path]
         words += ["--keep", f"{kept}/{project}"] if kept else []
         with redirect_stdout(StringIO()), redirect_stderr(StringIO()) as said:
-            status = publish.main([*words, front.url, project, folder])
+            status = PUBLISH.main([*words, front.url, project, folder])
         if status != 0:
             raise Failed(f"publish {project}: {said.getvalue()}")
 
@@ -245,54 +222,54 @@ def measure(one: Asked, proxy: Asked, fixed: int) -> None:
 
 def by_haproxy(program: str, folder: str) -> None:
     """Starts other servers behind nginx and HAProxy, and compares the sets on these."""
-    ports, servers = [free_port() for _ in range(SERVERS + 1)], []
+    ports = [free_port() for _ in range(SERVERS + 1)]
     os.mkdir(f"{folder}/front")
     places = [*(f"127.0.0.1:{port}" for port in ports[1:]), NOBODY]
-    try:
+    with ExitStack() as stack:
         for port in ports:
-            servers.append(started(program, port, 1_000_000))
-        with fronted("haproxy", f"{folder}/front", places) as front:
-            print("by nginx and HAProxy:")
-            put_all(by_port(ports[0]), None)
-            # nginx picks by the address of the HAProxy before each server
-            queues = [front.queue, *front.more_queues]
-            compare_spread(by_port(ports[0]), front, [f"http://127.0.0.1:{at}" for at in queues])
-    finally:
-        for server in servers:
-            ended(server)
+            stack.enter_context(Program(program).serve(port=port))
+        front = stack.enter_context(fronted("haproxy", f"{folder}/front", places))
+        print("by nginx and HAProxy:")
+        put_all(by_port(ports[0]), None)
+        # nginx picks by the address of the HAProxy before each server
+        queues = [front.queue, *front.more_queues]
+        compare_spread(by_port(ports[0]), front, [f"http://127.0.0.1:{at}" for at in queues])
 
 
 def run(program: str, folder: str) -> None:
     """Starts the servers and the front, and compares."""
-    ports, plain, servers = [free_port() for _ in range(SERVERS + 1)], free_port(), []
+    ports, plain = [free_port() for _ in range(SERVERS + 1)], free_port()
     # the last is the place for turns, which a front before several machines hasn't
     places = [*(f"127.0.0.1:{port}" for port in ports[1:]), NOBODY]
     os.mkdir(f"{folder}/front")
-    try:
+    with ExitStack() as stack:
         for port in ports:
-            servers.append(started(program, port, 1_000_000))
-        with fronted("lua", f"{folder}/front", places) as front, nginx(folder, plain):
-            one, proxy = by_port(ports[0]), by_front(front)
-            put_all(one, proxy)
-            compare(one, proxy, homes(ports[1:]))
-            compare_names(one, proxy, ports[1:])
-            measure(one, proxy, plain)
-            compare_spread(one, front, [f"http://{place}" for place in places[:-1]])
-    finally:
-        for server in servers:
-            ended(server)
+            stack.enter_context(Program(program).serve(port=port))
+        front = stack.enter_context(fronted("lua", f"{folder}/front", places))
+        stack.enter_context(nginx(folder, plain))
+        one, proxy = by_port(ports[0]), by_front(front)
+        put_all(one, proxy)
+        compare(one, proxy, homes(ports[1:]))
+        compare_names(one, proxy, ports[1:])
+        measure(one, proxy, plain)
+        compare_spread(one, front, [f"http://{place}" for place in places[:-1]])
 
 
 def main() -> int:
     """Answers 0 where each answer was as it should be."""
+    options = argparse.ArgumentParser(
+        description=__doc__, formatter_class=argparse.RawDescriptionHelpFormatter
+    )
+    options.add_argument("program", help="the built one")
+    program = options.parse_args().program
+    subprocess.run([program, "--version"], check=True)
     try:
-        if why := lacking("lua"):
-            raise Failed(why)
-        if why := lacking("haproxy"):
-            raise Failed(why)
+        for kind in "lua", "haproxy":
+            if why := lacking(kind):
+                raise Failed(why)
         for part in run, by_haproxy:
             with tempfile.TemporaryDirectory() as folder:
-                part(sys.argv[1], folder)
+                part(program, folder)
     except (Failed, OSError) as fault:
         print(f"proxy: {fault}", file=sys.stderr)
         return 1

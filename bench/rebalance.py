@@ -12,7 +12,6 @@ usage: bench/rebalance.py [PROGRAM [lua|haproxy]]  (the built program, without i
 import os
 import pathlib
 import random
-import subprocess
 import sys
 import tempfile
 import threading
@@ -20,16 +19,17 @@ import time
 from collections import Counter
 from contextlib import ExitStack, redirect_stderr, redirect_stdout
 from io import StringIO
-from typing import Callable
+from typing import Any, Callable
 from urllib.parse import parse_qsl
 
 from proxy import Asked, as_set, by_port, publish_all, put_all, queries
 
-from codenav.asking.index import Asked as Index
-from codenav.asking.questions import fetch_from
-from codenav.faults import NoReply
-from codenav.program import Failed, ended, free_port, started
-from codenav.publishing import publish
+from codenav.asking.index import Index
+from codenav.cli.command import Command
+from codenav.cli.rebalance import REBALANCE
+from codenav.client.fetch import fetch_from
+from codenav.faults import Failed, NoReply
+from codenav.program import Program, Running, free_port
 from codenav.sets.ring import home_of
 from tests.fronts import KINDS, NOBODY, Front, adding, fronted, host_of, lacking
 
@@ -39,7 +39,6 @@ MANY = 8
 SECONDS = 60
 # how long a front holds a request while its server is away: 600 s in packaging/front
 LONGEST = 10
-REQUESTS = 1_000_000
 TOP = pathlib.Path(__file__).resolve().parent.parent
 
 
@@ -94,12 +93,12 @@ class Load:
             self.counts[question.ask(index)] += 1
 
 
-def called(*words: str) -> list[str]:
-    """Calls `publish`, which ends with 0; answers what it prints."""
+def called(command: Command[Any], *words: str) -> list[str]:
+    """Calls a word, which ends with 0; answers what it prints."""
     with redirect_stdout(StringIO()) as said, redirect_stderr(StringIO()) as warned:
-        status = publish.main(list(words))
+        status = command.main(list(words))
     if status != 0:
-        raise Failed(f"publish {' '.join(words)}: {warned.getvalue()}")
+        raise Failed(f"{command.word} {' '.join(words)}: {warned.getvalue()}")
     return said.getvalue().splitlines()
 
 
@@ -116,14 +115,14 @@ class Trial:
         self.front = stack.enter_context(fronted(kind, f"{folder}/front", places, longest=LONGEST))
         self.kept = f"{folder}/kept"
 
-    def start(self, port: int) -> "subprocess.Popen[bytes]":
+    def start(self, port: int) -> Running:
         """Starts a server over its file."""
-        return started(self.program, port, REQUESTS, f"{self.folder}/{port}.db", quiet=True)
+        return Program(self.program).serve(f"{self.folder}/{port}.db", port)
 
     def end(self) -> None:
         """Ends the servers that still run."""
         for server in self.running.values():
-            ended(server)
+            server.end()
 
     def servers(self) -> list[str]:
         """The three servers and the fourth, as the front names them."""
@@ -135,7 +134,7 @@ class Trial:
     def rebalance(self, servers: list[str], *words: str) -> list[str]:
         """Puts the sets where servers have them."""
         named = ",".join(servers)
-        return called("--rebalance", self.kept, "--servers", named, *words, self.front.url)
+        return called(REBALANCE, "--servers", named, *words, self.front.url, self.kept)
 
 
 def row(what: str, counts: Counter[str], seconds: float, said: str) -> None:
@@ -191,7 +190,6 @@ def lose(trial: Trial, questions: list[Question]) -> None:
     servers, port = trial.servers()[:SERVERS], trial.ports[2]
     lost = servers[1]
     trial.running[port].kill()
-    trial.running[port].wait()
     for path in pathlib.Path(trial.folder).glob(f"{port}.db*"):
         path.unlink()
     begin = time.monotonic()

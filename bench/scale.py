@@ -1,6 +1,16 @@
-"""Measures what one server holds: see bench/scale.sh."""
+"""Measures what one `codenav serve` holds, over loopback, in one run, for an index in memory and for
+one in a file.
 
-import io
+What queries cost, one after the other, beside an nginx with a fixed reply; what puts cost that make
+a project, and those in the place of a dump, beside `codenav check-lsif` of the same dump; and what
+dumps and tags take in the memory of the program, and in the file with its log, a line, and in
+multiples of the bodies. In memory one project has tags, in the file eight. Then how long a program
+takes from its start until it listens: over memory, a new file, an empty one and a copy of the one
+that was filled, of which it reads and checks all; beside SQLite's `integrity_check` and
+`foreign_key_check` of the same. It needs Debian's nginx.
+"""
+
+import argparse
 import itertools
 import math
 import pathlib
@@ -10,15 +20,16 @@ import subprocess
 import sys
 import tempfile
 import time
-from contextlib import contextmanager, redirect_stdout
-from typing import Callable, Iterator
+from typing import Callable
 from urllib.parse import urlencode
 
+import inputs
 from proxy import PROJECTS as NAMES
 from proxy import dump
 from servers import TOP, ask, least_times, nginx, resident_bytes
 
-from codenav.program import Failed, ended, free_port, started
+from codenav.faults import Failed
+from codenav.program import Program, free_port
 
 PROJECTS = 8
 TAGGED = {"memory": 1, "file": 8}
@@ -26,17 +37,6 @@ QUERIES = 80
 TURNS = 5
 STARTS = 3
 KEYS = itertools.count()
-
-
-@contextmanager
-def serving(program: str, database: str) -> Iterator[tuple["subprocess.Popen[bytes]", int]]:
-    """A server over a database, with its port; it ends with the context."""
-    port = free_port()
-    server = started(program, port, 1_000_000, database)
-    try:
-        yield server, port
-    finally:
-        ended(server)
 
 
 def query(port: int, path: str, **parameters: object) -> Callable[[], object]:
@@ -157,11 +157,9 @@ def start_seconds(program: str, databases: list[str]) -> float:
     """The least time from a program's start until it listens, over these databases in turn."""
     found = []
     for database in databases:
-        port, begin = free_port(), time.perf_counter()
-        with redirect_stdout(io.StringIO()):
-            server = started(program, port, 1, database)
-        found.append(time.perf_counter() - begin)
-        ended(server)
+        begin = time.perf_counter()
+        with Program(program).serve(database, requests=1):
+            found.append(time.perf_counter() - begin)
     return min(found)
 
 
@@ -212,37 +210,53 @@ def measure(program: str, folder: pathlib.Path) -> None:
     that file."""
     small, great, tags = TOP / "demo" / "base.lsif", folder / "great.lsif", folder / "great.tags"
     database, plain = folder / "index.db", free_port()
-    with tempfile.TemporaryDirectory() as held, nginx(held, plain), serving(
-        program, ":memory:"
-    ) as memory, serving(program, str(database)) as file:
-        ports = {"memory": memory[1], "file": file[1]}
+    with tempfile.TemporaryDirectory() as held, nginx(held, plain), Program(
+        program
+    ).serve() as memory, Program(program).serve(str(database)) as file:
+        ports = {"memory": memory.port, "file": file.port}
         sizes = {
-            "memory": lambda: resident_bytes(memory[0].pid),
+            "memory": lambda: resident_bytes(memory.pid),
             "file": lambda: file_bytes(database),
         }
         for where, port in ports.items():
             put(port, "/projects/small/lsif", small.read_bytes())
-            put(port, "/projects/joined/lsif", dump(0).encode())
+            put(port, "/projects/joined/lsif", dump(0))
             measure_growth(where, sizes[where], port, "lsif", great.read_bytes(), PROJECTS)
             measure_growth(where, sizes[where], port, "tags", tags.read_bytes(), TAGGED[where])
         print(
-            f"file: {database.stat().st_size} bytes, its log {log_of(database).stat().st_size}; the program over it holds {resident_bytes(file[0].pid)} bytes in memory"
+            f"file: {database.stat().st_size} bytes, its log {log_of(database).stat().st_size}; the program over it holds {resident_bytes(file.pid)} bytes in memory"
         )
         filled = copied(database, folder / "filled.db")
         for where, port in ports.items():
             measure_queries(where, port, plain)
             measure_puts(program, where, port, [small, folder / "middle.lsif", great])
     measure_starts(program, filled)
-    with serving(program, ":memory:") as fresh:
+    with Program(program).serve() as fresh:
         measure_puts(
-            program, "memory, nothing else in it", fresh[1], [small, folder / "middle.lsif", great]
+            program,
+            "memory, nothing else in it",
+            fresh.port,
+            [small, folder / "middle.lsif", great],
         )
 
 
 def main() -> int:
-    """Prints the measurements, over the files of a folder and by a program."""
+    """Prints the measurements."""
+    options = argparse.ArgumentParser(
+        description=__doc__, formatter_class=argparse.RawDescriptionHelpFormatter
+    )
+    options.add_argument("program", help="the built one")
+    count = "of a dump, and tags of a tags file; 80000"
+    options.add_argument("elements", nargs="?", type=int, default=80_000, help=count)
+    given = options.parse_args()
+    subprocess.run([given.program, "--version"], check=True)
     try:
-        measure(sys.argv[2], pathlib.Path(sys.argv[1]))
+        with tempfile.TemporaryDirectory() as name:
+            folder = pathlib.Path(name)
+            (folder / "great.lsif").write_bytes(inputs.dump(given.elements))
+            (folder / "middle.lsif").write_bytes(inputs.dump(given.elements // 8))
+            (folder / "great.tags").write_bytes(inputs.tags(given.elements))
+            measure(given.program, folder)
     except (Failed, OSError, sqlite3.Error) as fault:
         print(f"scale: {fault}", file=sys.stderr)
         return 1

@@ -1,4 +1,3 @@
-#!/usr/bin/env python3
 """Measures a set: splits a large dump and a small one, publishes both, asks both in turns, starts
 the server again, then changes one document of the large one, splits and publishes again. Prints
 what each stage took: wall clock, processor time of the tool and of the server, and the most memory
@@ -8,11 +7,9 @@ Where it asks is chosen by chance among the ranges of the parts, of which one at
 memory. The document that's changed is that which most documents lead to among those that were
 asked for definitions.
 
-usage: bench/sets.py PROGRAM LARGE SMALL [ASKED [FOLDER]]
-       (both dumps are prepared; bench/large_dump.py makes a large one. ASKED questions of each
-       kind, 300 without it. FOLDER keeps the splits, and a later run takes those that it has.)
 """
 
+import argparse
 import json
 import os
 import random
@@ -27,14 +24,15 @@ from contextlib import contextmanager
 from dataclasses import dataclass, field
 from typing import Any, Iterator
 
-TOP = os.path.dirname(os.path.dirname(os.path.abspath(__file__)))
-sys.path.insert(0, os.path.join(TOP, "tools"))
+import servers  # noqa: F401  (the path of the tools)
+from watched import tool
 
-from codenav.asking.index import Asked
+from codenav.asking.index import Index
 from codenav.client import http as client
 from codenav.client.http import found_in, request
-from codenav.program import ended, free_port, started
-from codenav.sets.manifest import MANIFEST, Head, read_documents, read_head
+from codenav.program import Program, Running, free_port
+from codenav.sets.files import MANIFEST, read_documents, read_head
+from codenav.sets.manifest import Head
 
 TICKS = os.sysconf("SC_CLK_TCK")
 KINDS = {"definition": "places", "references": "places", "hover": "contents"}
@@ -108,17 +106,17 @@ def called(used: dict[str, float], *words: str) -> None:
     """Calls a tool."""
     used["memory"], before = 0, children_seconds()
     with tempfile.TemporaryFile() as said:
-        with subprocess.Popen([sys.executable, *words], stdout=said, stderr=said) as tool:
-            while tool.poll() is None:
-                used["memory"] = max(used["memory"], shared_memory(tool.pid))
+        with subprocess.Popen(tool(*words), stdout=said, stderr=said) as call:
+            while call.poll() is None:
+                used["memory"] = max(used["memory"], shared_memory(call.pid))
                 try:
-                    tool.wait(EACH)
+                    call.wait(EACH)
                 except subprocess.TimeoutExpired:
                     pass
         said.seek(0)
         text = said.read().decode().rstrip("\n")
     used["seconds"] = children_seconds() - before
-    if tool.returncode != 0:
+    if call.returncode != 0:
         sys.exit(f"{words[0]}: {text}")
     print(text, flush=True)
 
@@ -170,7 +168,7 @@ class Asking:
     users: dict[str, set[str]] = field(default_factory=dict)
 
     def __post_init__(self) -> None:
-        self.asked = Asked(self.name, self.fetch)
+        self.asked = Index(self.name, self.fetch)
 
     def fetch(self, path: str, parameters: dict[str, Any], member: str) -> Any:
         """What the server answers."""
@@ -256,13 +254,13 @@ def split(name: str, path: str, own: str, pid: int) -> None:
     """Splits a dump."""
     with stage(f"{name}, split", pid) as used:
         words = ["--jobs", PROCESSES, "--name", name.split()[0], path, own]
-        called(used, f"{TOP}/tools/split-lsif", *words)
+        called(used, "split-lsif", *words)
 
 
 def published(name: str, url: str, own: str, pid: int) -> None:
     """Publishes what is in a folder."""
     with stage(f"{name}, published", pid) as used:
-        called(used, f"{TOP}/tools/publish-set", url, own)
+        called(used, "publish-set", url, own)
 
 
 def changed(large: str, own: str, uri: str, pid: int) -> str:
@@ -293,10 +291,10 @@ def print_size(database: str) -> None:
     print(f"database and log {sum(map(os.path.getsize, files_of(database))) >> 20} MB", flush=True)
 
 
-def started_again(program: str, port: int, database: str) -> subprocess.Popen[bytes]:
+def started_again(program: str, port: int, database: str) -> Running:
     """Starts a server over a database, and prints what that takes."""
     began = time.monotonic()
-    server = started(program, port, 1_000_000, database)
+    server = Program(program).serve(database, port)
     print(
         f"a start over it {time.monotonic() - began:.1f} s, "
         f"processor {processor_seconds(server.pid):.1f} s, {most_memory(server.pid)} MB",
@@ -311,7 +309,7 @@ def measured(program: str, large: str, small: str, count: int, folder: str) -> N
     database = os.path.join(folder, "index.db")
     for path in files_of(database):
         os.unlink(path)
-    server = started(program, port, 1_000_000, database)
+    server = Program(program).serve(database, port)
     url = f"http://127.0.0.1:{port}"
     folders = {name: os.path.join(folder, name) for name in ("small", "large")}
     for (name, own), path in zip(folders.items(), (small, large)):
@@ -321,24 +319,30 @@ def measured(program: str, large: str, small: str, count: int, folder: str) -> N
         print_size(database)
     askings = [Asking(url, name, points_of(own, count)) for name, own in folders.items()]
     asked_in_turns(askings[0], askings[1], server.pid)
-    ended(server)
+    server.end()
     server = started_again(program, port, database)
     again = changed(large, folders["large"], askings[1].most_used(), server.pid)
     published("large again", url, again, server.pid)
     print_size(database)
-    ended(server)
+    server.end()
 
 
-def main(words: list[str]) -> None:
-    """Reads the command line."""
-    if len(words) not in (3, 4, 5):
-        sys.exit("usage: bench/sets.py PROGRAM LARGE SMALL [ASKED [FOLDER]]")
-    count = int((words[3:] or ["300"])[0])
+def main() -> None:
+    options = argparse.ArgumentParser(
+        description=__doc__, formatter_class=argparse.RawDescriptionHelpFormatter
+    )
+    options.add_argument("program", help="the built one")
+    options.add_argument("large", help="a prepared dump, as `bench/copies.py joined` makes one")
+    options.add_argument("small", help="another one")
+    options.add_argument("asked", nargs="?", type=int, default=300, help="of each kind; 300")
+    kept = "keeps the splits, and a later run takes those that it has"
+    options.add_argument("folder", nargs="?", help=kept)
+    given = options.parse_args()
     with tempfile.TemporaryDirectory() as made:
-        folder = (words[4:] or [made])[0]
+        folder = given.folder or made
         os.makedirs(folder, exist_ok=True)
-        measured(words[0], words[1], words[2], count, folder)
+        measured(given.program, given.large, given.small, given.asked, folder)
 
 
 if __name__ == "__main__":
-    main(sys.argv[1:])
+    main()

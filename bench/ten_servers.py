@@ -1,4 +1,3 @@
-#!/usr/bin/env python3
 """Measures sets on several servers: so many large dumps that are joined with each other
 (joined_dumps.py), each the set of a server of its own. Of the first one's server all is done: its
 set is split and put there, and the surfaces of all others too. Beside it one server has the first
@@ -24,47 +23,26 @@ import sys
 import tempfile
 import time
 from concurrent.futures import ProcessPoolExecutor
-from contextlib import ExitStack, contextmanager, redirect_stderr
-from io import StringIO
-from subprocess import Popen
-from typing import Any, Callable, Iterator, NamedTuple
-
-TOP = os.path.dirname(os.path.dirname(os.path.abspath(__file__)))
-sys.path.insert(0, os.path.join(TOP, "tools"))
+from contextlib import ExitStack
+from typing import Any, Callable
 
 from joined_dumps import Place, make_text, write_renamed
-from sets import children_seconds, processor_seconds, stage
 
-from codenav.asking.index import Asked
-from codenav.asking.questions import fetch_from
-from codenav.program import Failed, ended, free_port, started
-from codenav.sets.publish.publish import Publish, Store
-from codenav.sets.publish.spread import Made, made_surface
-from codenav.sets.split import split
+from codenav.asking.index import Index
+from codenav.client.fetch import fetch_from
+from codenav.faults import Failed
+from codenav.program import Program, Running
+from codenav.progress import Quiet
+from codenav.sets.publish.publish import Publish
+from codenav.sets.publish.store import Store
+from codenav.sets.split.split import SplitOptions, split
+from codenav.sets.surface.made import SurfaceFiles, made_surface
+from sets import children_seconds, processor_seconds, stage
 
 ASKED = 400
 SECONDS = 300
 KINDS = "definition", "references"
 OF_A_SET = re.compile(r"(s[0-9]+)-(?:surface-)?[0-9a-f]{16}")
-
-
-class Server(NamedTuple):
-    """A server that runs over a file."""
-
-    process: "Popen[bytes]"
-    url: str
-    database: str
-
-
-@contextmanager
-def serving(program: str, database: str) -> Iterator[Server]:
-    """A server over a file, which ends with the context."""
-    port = free_port()
-    process = started(program, port, 1_000_000, database, quiet=True)
-    try:
-        yield Server(process, f"http://127.0.0.1:{port}", database)
-    finally:
-        ended(process)
 
 
 def in_child(used: dict[str, float], call: Callable[..., Any], *words: object) -> Any:
@@ -80,16 +58,12 @@ def in_child(used: dict[str, float], call: Callable[..., Any], *words: object) -
 
 def split_dump(dump: str, name: str, folder: str) -> str:
     """Splits a dump into a folder; answers what is said."""
-    with redirect_stderr(StringIO()) as said:
-        if split.main(["--name", name, dump, folder]) != 0:
-            raise Failed(said.getvalue())
-    return said.getvalue().strip()
+    return "\n".join(split(dump, SplitOptions(name), folder, Quiet()).lines())
 
 
-def surface_of(dump: str, name: str, folder: str) -> Made:
+def surface_of(dump: str, name: str, folder: str) -> SurfaceFiles:
     """Makes the surface of a dump in a folder."""
-    with redirect_stderr(StringIO()):
-        return made_surface(dump, name, "1", folder)
+    return made_surface(dump, name, "1", folder, Quiet())
 
 
 def parts_in(folder: str) -> list[str]:
@@ -103,7 +77,7 @@ def bytes_of(folder: str) -> int:
     return sum(map(os.path.getsize, parts_in(folder)))
 
 
-def put_surface(server: Server, folder: str) -> None:
+def put_surface(server: Running, folder: str) -> None:
     """Puts the surface in a folder on a server."""
     for path in parts_in(folder):
         with open(path, "rb") as body:
@@ -141,13 +115,13 @@ def shown(places: list[dict[str, Any]]) -> list[str]:
     return sorted({str({**one, "project": OF_A_SET.sub(r"\1", one["project"])}) for one in places})
 
 
-def ask_both(one: Server, spread: Server, places: list[Place], is_equal: bool) -> None:
+def ask_both(one: Running, spread: Running, places: list[Place], is_equal: bool) -> None:
     """Asks both servers at places, in turns, and prints what that takes; raises Failed where the
     answers should be equal and aren't."""
-    asked = [Asked("s0", fetch_from(server.url, SECONDS)) for server in (one, spread)]
+    asked = [Index("s0", fetch_from(server.url, SECONDS)) for server in (one, spread)]
     for kind in KINDS:
         times: list[list[float]] = [[], []]
-        before = [processor_seconds(server.process.pid) for server in (one, spread)]
+        before = [processor_seconds(server.pid) for server in (one, spread)]
         found, away = [0, 0], 0
         for uri, line, character in places:
             answers = []
@@ -167,7 +141,7 @@ def ask_both(one: Server, spread: Server, places: list[Place], is_equal: bool) -
         if not away:
             raise Failed(f"{kind}: no answer leads to another set")
         for at, server in enumerate((one, spread)):
-            took, used = sorted(times[at]), processor_seconds(server.process.pid) - before[at]
+            took, used = sorted(times[at]), processor_seconds(server.pid) - before[at]
             print(
                 f"{kind}, {'spread' if at else 'one server'}: p50 {took[len(took) // 2] * 1e3:.2f} ms, "
                 f"p99 {took[len(took) * 99 // 100] * 1e3:.2f} ms, the server {used / len(took) * 1e3:.2f} ms, "
@@ -176,19 +150,19 @@ def ask_both(one: Server, spread: Server, places: list[Place], is_equal: bool) -
             )
 
 
-def report(program: str, server: Server) -> None:
+def report(program: str, server: Running) -> None:
     """Prints how large the file of a server is, the memory, and what a start over it takes."""
-    with open(f"/proc/{server.process.pid}/status", encoding="ascii") as file:
+    with open(f"/proc/{server.pid}/status", encoding="ascii") as file:
         memory = next(line.split()[1] for line in file if line.startswith("VmRSS"))
-    ended(server.process)
+    server.end()
     size = sum(
         os.path.getsize(path)
         for path in (server.database, f"{server.database}-wal")
         if os.path.exists(path)
     )
     began = time.monotonic()
-    with serving(program, server.database) as again:
-        took, used = time.monotonic() - began, processor_seconds(again.process.pid)
+    with Program(program).serve(server.database) as again:
+        took, used = time.monotonic() - began, processor_seconds(again.pid)
     print(
         f"{os.path.basename(server.database)}: {size >> 20} MB, memory {int(memory) >> 10} MB, "
         f"a start {took:.1f} s, {used:.1f} s of processor time",
@@ -204,18 +178,18 @@ def measured(program: str, count: int, copies: int, dumps: list[str], folder: st
     make_sets(text, count, folder)
     with ExitStack() as stack:
         one, spread = (
-            stack.enter_context(serving(program, os.path.join(folder, f"{name}.db")))
+            stack.enter_context(Program(program).serve(os.path.join(folder, f"{name}.db")))
             for name in ("one", "spread")
         )
 
         def put(number: int) -> None:
-            with stage(f"s{number}, its surface put at the home of s0", spread.process.pid):
+            with stage(f"s{number}, its surface put at the home of s0", spread.pid):
                 put_surface(spread, os.path.join(folder, f"s{number}", "surface"))
 
-        with stage("s0, put at its home", spread.process.pid):
+        with stage("s0, put at its home", spread.pid):
             Publish(Store(spread.url), os.path.join(folder, "s0")).run()
         for number in range(2):
-            with stage(f"s{number}, put whole on the one server", one.process.pid):
+            with stage(f"s{number}, put whole on the one server", one.pid):
                 Publish(Store(one.url), os.path.join(folder, f"s{number}")).run()
         put(1)
         print("with the surface of the set that the one server has whole: equal answers")

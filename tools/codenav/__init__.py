@@ -1,1 +1,3 @@
 """The tools beside the server."""
+
+VERSION = "0.1.0"

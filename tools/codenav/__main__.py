@@ -1,7 +1,11 @@
-"""`python3 -m codenav`."""
+"""`python3 -m codenav`; by the path of this file, too."""
 
+import os
 import sys
 
-from codenav.cli.main import main
+if not __package__:
+    sys.path[0] = os.path.dirname(os.path.dirname(os.path.abspath(__file__)))
 
-sys.exit(main())
+from codenav.cli.main import run
+
+run()

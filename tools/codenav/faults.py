@@ -1,10 +1,20 @@
 """Why a call can't be carried out."""
 
+import re
+
+NO_DUMP, NO_DOCUMENT = "D01", "D02"
+CODE = re.compile("[A-Z][0-9]{2}(?= )")
+
 
 class Fault(Exception):
     """A call that ends with the status; the text is the one line to print."""
 
     status = 2
+
+    def code(self) -> str:
+        """The server's code that the text begins with, or nothing."""
+        found = CODE.match(str(self))
+        return found[0] if found else ""
 
 
 class BadCall(Fault):
@@ -18,3 +28,9 @@ class NotADump(Fault):
 class NoReply(BadCall):
     """A request that the server didn't answer as it was asked; the text begins with the fault's
     code where there is one."""
+
+
+class Failed(Fault):
+    """A trial that can't go on."""
+
+    status = 1

@@ -8,7 +8,8 @@ from contextlib import contextmanager
 from typing import Iterator
 
 from codenav.cli.try_it import TAGS, run
-from codenav.program import TOP, Failed, built_program, serving
+from codenav.faults import Failed
+from codenav.program import Program, build
 
 REQUESTS = 1000
 PROJECTS = {"temperature": "demo/crate.raw.lsif", "kettle": "demo/user.raw.lsif"}
@@ -18,18 +19,21 @@ MAP = ["--map", "file:///src/tr=demo", "--tags", "temperature=demo/crate"]
 def succeed(words: list[str]) -> None:
     """Makes a call that must end with status 0."""
     if run(words)[1] != 0:
-        raise Failed(f"{words[0]} failed")
+        raise Failed(f"codenav {words[0]} failed")
 
 
 @contextmanager
 def demo_server(program: str) -> Iterator[str]:
     """The address of a server that has both dumps and the tags; it ends with the context."""
-    with tempfile.TemporaryDirectory() as folder, serving(program, REQUESTS) as url:
+    with tempfile.TemporaryDirectory() as folder, Program(program).serve(
+        requests=REQUESTS
+    ) as server:
+        url = server.url
         for project, raw in PROJECTS.items():
             dump = os.path.join(folder, "prepared.lsif")
-            succeed(["tools/prepare-lsif", raw, dump])
-            succeed(["tools/upload-lsif", url, project, dump])
-        succeed(["tools/upload-tags", url, "temperature", TAGS])
+            succeed(["prepare", raw, dump])
+            succeed(["upload", url, project, dump])
+        succeed(["upload", url, "temperature", TAGS])
         yield url
 
 
@@ -38,4 +42,7 @@ def program_of(words: list[str]) -> str:
     built first where it isn't yet."""
     if len(words) > 1:
         sys.exit("usage: [PROGRAM]")
-    return os.path.abspath(words[0]) if words else built_program(TOP)
+    if words:
+        return os.path.abspath(words[0])
+    build()
+    return Program.needed().path

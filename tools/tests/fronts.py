@@ -17,8 +17,9 @@ from typing import Iterator, Optional
 from urllib.parse import urlsplit
 
 from codenav.client.http import Answer, request
-from codenav.program import Failed, ended, free_port
-from tests.servers import TOP
+from codenav.faults import Failed
+from codenav.program import free_port
+from tests.servers import TOP, ended
 
 KINDS = {"lua": "nginx with Lua", "haproxy": "nginx and HAProxy"}
 PACKAGES = "apt-get install nginx libnginx-mod-http-lua haproxy openssl"

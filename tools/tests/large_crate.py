@@ -10,8 +10,9 @@ import re
 from contextlib import contextmanager
 from typing import Iterator, NamedTuple
 
-from codenav.program import Failed, serving
-from codenav.sets.publish.publish import Store
+from codenav.faults import Failed
+from codenav.program import Program
+from codenav.sets.publish.store import Store
 from codenav.texts.places import uri_of
 from tests.debian_crates import ANALYZER, copied
 from tests.demo_server import succeed
@@ -63,9 +64,10 @@ def places_of(home: str) -> list[Place]:
 def large_crate(program: str) -> Iterator[LargeCrate]:
     """A server with the set; it ends with the context. Raises Failed where the word's places aren't
     in several parts."""
-    with copied(CRATE) as home, serving(program) as url:
+    with copied(CRATE) as home, Program(program).serve() as server:
+        url = server.url
         home = os.path.realpath(home)
-        succeed(["tools/publish", "--set", "--index", f"{ANALYZER} lsif .", url, NAME, home])
+        succeed(["publish", "--set", "--index", f"{ANALYZER} lsif .", url, NAME, home])
         head, places = Store(url).head(NAME), places_of(home)
         if head is None or len(head.parts) < LEAST_PARTS:
             raise Failed(f"{CRATE} isn't a set of {LEAST_PARTS} parts: {head}")

@@ -3,20 +3,23 @@ answers on their way."""
 
 import os
 import socket
+import subprocess
 import threading
 import unittest
-from typing import Callable, Optional
+from typing import Any, Callable, Optional
 from urllib.parse import urlencode
 
 from codenav.client.http import Answer
-from codenav.program import ended, free_port, started
+from codenav.program import BUILT as BUILT_IN
+from codenav.program import Program, free_port
 from codenav.records import ADDRESS
 
 TOP = os.path.dirname(os.path.dirname(os.path.dirname(os.path.abspath(__file__))))
 SECONDS = 10
-REQUESTS = 1_000_000
 NOT_BUILT = "the program isn't built, and CODENAV_PROGRAM names none"
-BUILT = os.path.join(TOP, "crates", "codenav", "out", "codenav")
+BUILT = os.path.join(TOP, BUILT_IN)
+# what is called in a process of its own: `python3 COMMAND WORD ..`
+COMMAND = os.path.join(TOP, "tools", "codenav", "__main__.py")
 STAND_IN = os.path.join(TOP, "tools", "tests", "stand_in.py")
 
 
@@ -27,6 +30,15 @@ def built_program() -> Optional[str]:
     if named:
         return os.path.abspath(named)
     return BUILT if os.path.isfile(BUILT) else None
+
+
+def ended(process: "subprocess.Popen[Any]") -> None:
+    """Ends a process that still runs, and closes what it printed."""
+    if process.poll() is None:
+        process.terminate()
+        process.wait(SECONDS)
+    if process.stdout is not None:
+        process.stdout.close()
 
 
 def program() -> str:
@@ -59,17 +71,15 @@ class OnServer(unittest.TestCase):
         self.program, self.port = program(), free_port()
         self.url = f"http://127.0.0.1:{self.port}"
         self.start()
-        self.addCleanup(lambda: ended(self.server))
+        self.addCleanup(lambda: self.server.end())
 
     def start(self) -> None:
         """Starts the server."""
-        self.server = started(self.program, self.port, REQUESTS, self.database, quiet=True)
+        self.server = Program(self.program).serve(self.database, self.port)
 
     def kill(self) -> None:
         """Kills the server."""
         self.server.kill()
-        self.server.wait()
-        ended(self.server)
 
 
 class Relay:

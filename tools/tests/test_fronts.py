@@ -16,7 +16,7 @@ from contextlib import ExitStack
 from typing import ClassVar, Optional
 
 from codenav.client.http import request
-from codenav.program import ended, serving, started
+from codenav.program import Program
 from tests.fronts import NOBODY, UNLIMITED, USER, Front, fronted, host_of, lacking
 from tests.servers import TOP, Relay, program
 from tests.test_uploads import DUMP
@@ -70,7 +70,7 @@ class OfFront:
                 raise unittest.SkipTest(why)
             cls.stack = ExitStack()
             folder = cls.stack.enter_context(tempfile.TemporaryDirectory())
-            url = cls.stack.enter_context(serving(program(), quiet=True))
+            url = cls.stack.enter_context(Program(program()).serve()).url
             cls.front = cls.stack.enter_context(fronted(cls.kind, folder, [host_of(url)]))
 
         @classmethod
@@ -179,7 +179,7 @@ class OfFront:
                 self.assertEqual(front.ask("GET", HOVER)[2], b'{"contents":"one"}')
 
         def own_server(self) -> str:
-            return host_of(self.enterContext(serving(program(), quiet=True)))
+            return host_of(self.enterContext(Program(program()).serve()).url)
 
         def test_away(self) -> None:
             """While the server is away, requests wait, and /health says so."""
@@ -199,8 +199,7 @@ class OfFront:
             self.assertEqual((status, json.loads(body)["fault"]), (503, "front"))
             self.assertEqual(found, [])
             held.close()
-            server = started(program(), port, 100, quiet=True)
-            self.addCleanup(ended, server)
+            self.enterContext(Program(program()).serve(port=port))
             waiting.join(20)
             self.assertEqual(found, [(200, b'{"projects":[]}')])
 

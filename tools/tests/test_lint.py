@@ -13,7 +13,15 @@ import tomllib
 
 from tests.servers import TOP
 
-CHECKED = ["tools/codenav", "tools/wheel", "tools/tests", "bench", "packaging/stage", "quick"]
+CHECKED = [
+    "tools/codenav",
+    "tools/wheel",
+    "tools/tests",
+    "bench",
+    "checks",
+    "packaging/stage",
+    "quick",
+]
 BLACK = "23."
 
 

@@ -111,7 +111,7 @@ class Installed(OnServer):
             (["--help"], 0, "usage: codenav-tools TOOL"),
             (["browse", "--help"], 0, "usage: browse"),
             (["list", "http://127.0.0.1:1"], 2, "list: http://127.0.0.1:1: Connection refused"),
-            (["prepare-lsif", raw, "dump"], 0, "prepare-lsif: version 0.5.0 -> 0.6.0"),
+            (["prepare-lsif", raw, "dump"], 0, "codenav prepare: version 0.5.0 -> 0.6.0"),
             (["upload-lsif", self.url, "app", "dump"], 0, '{"accepted":"lsif"'),
             (["list", self.url], 0, "app: dump\n"),
             (
@@ -123,7 +123,7 @@ class Installed(OnServer):
             (
                 ["scip-to-lsif", raw, "out"],
                 2,
-                "scip-to-lsif: it needs Debian's package python3-protobuf",
+                "codenav prepare: it needs Debian's package python3-protobuf",
             ),
             (["try-it"], 1, "try-it: runs in a clone of the repository"),
         ):

@@ -12,8 +12,8 @@ from contextlib import ExitStack
 from typing import Callable
 from unittest import mock
 
-from codenav.program import serving
-from codenav.sets.publish.publish import Store
+from codenav.program import Program
+from codenav.sets.publish.store import Store
 from codenav.sets.ring import home_of
 from tests import fronts
 from tests.fronts import NOBODY, Front, fronted, host_of, lacking
@@ -54,7 +54,7 @@ class Page(unittest.TestCase):
             self.skipTest(why)
         self.stack = self.enterContext(ExitStack())
         self.folder = self.enterContext(tempfile.TemporaryDirectory())
-        self.servers = [self.enterContext(serving(program(), quiet=True)) for _ in range(3)]
+        self.servers = [self.enterContext(Program(program()).serve()).url for _ in range(3)]
 
     def front(self, kind: str, servers: list[str], change: Change) -> Front:
         """A front whose files are changed."""

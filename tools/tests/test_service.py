@@ -17,7 +17,7 @@ from codenav.program import free_port
 from codenav.service.folder import Serving, database_at, serving_of, side_of
 from codenav.service.standing import state_of
 from tests.fronts import Front, fronted, lacking
-from tests.servers import TOP, program
+from tests.servers import COMMAND, program
 from tests.test_fronts import HOVER
 from tests.test_uploads import DUMP
 
@@ -51,7 +51,7 @@ class OnService(unittest.TestCase):
     def launched(self, tool: str, *words: str, is_slow: bool = False) -> "subprocess.Popen[str]":
         """A tool that's called as users do."""
         process = subprocess.Popen(
-            [sys.executable, "-B", os.path.join(TOP, "tools", tool), *words],
+            [sys.executable, "-B", COMMAND, tool, *words],
             env={**os.environ, **({"PYTHONPATH": f"{self.base}/slow"} if is_slow else {})},
             stdin=subprocess.DEVNULL,
             stdout=subprocess.PIPE,
@@ -148,8 +148,8 @@ class Starts(OnService):
         self.assertEqual(self.hover(), b'{"contents":"one"}')
         status, said = self.ended(process)
         self.assertEqual(status, 0)
-        self.assertIn("supervise: the server ended with status -9\n", said)
-        self.assertIn("supervise: the server ended with status 0\n", said)
+        self.assertIn("codenav supervise: the server ended with status -9\n", said)
+        self.assertIn("codenav supervise: the server ended with status 0\n", said)
         self.assertIsNone(serving_of(self.folder))
 
     def test_a_killed_service(self) -> None:
@@ -168,7 +168,7 @@ class Starts(OnService):
         at = self.flip(database)
         status, said = self.refused()
         self.assertEqual(status, 78)
-        self.assertIn(f"supervise: {database}: changed since its server ended", said)
+        self.assertIn(f"codenav supervise: {database}: changed since its server ended", said)
         self.flip(database, at)
         self.assertEqual(self.ended(self.service())[0], 0)
         self.flip(database)

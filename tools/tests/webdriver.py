@@ -9,7 +9,9 @@ from typing import Any, Callable, Iterator
 from urllib.error import HTTPError
 from urllib.request import ProxyHandler, Request, build_opener
 
-from codenav.program import Failed, ended, free_port
+from codenav.faults import Failed
+from codenav.program import free_port
+from tests.servers import ended
 
 OPTIONS = [
     "--headless=new",

@@ -1,19 +1,39 @@
 """How a call of a tool ends."""
 
 import os
+import signal
 import sys
-from typing import Callable
+from typing import Callable, NoReturn
 
-from codenav.faults import BadCall
+from codenav.faults import Fault
 
-CLOSED_PIPE = 141
+CLOSED_PIPE = 128 + signal.SIGPIPE
+
+
+class Signalled(BaseException):
+    """A signal that ends the call, after what has to be done at its end, as removing files."""
+
+    def __init__(self, number: int) -> None:
+        super().__init__()
+        self.number = number
+
+
+def raise_signal(number: int, _: object) -> NoReturn:
+    """Ends the call by a signal; another one then ends it at once."""
+    signal.signal(number, signal.SIG_DFL)
+    raise Signalled(number)
+
+
+def text_of(fault: OSError) -> str:
+    """What a fault of the system is said by."""
+    return f"{fault.filename}: {fault.strerror}" if fault.filename else str(fault)
 
 
 def status_of(tool: str, call: Callable[[], int]) -> int:
     """Makes the call of a tool and answers its status. What can't be carried out is one line on the
-    standard error and status 2; where nobody reads the standard output any more the call ends
-    without a word, with the status of a program that SIGPIPE ended.
-    """
+    standard error and status 2, or that of the fault. Ctrl-C and SIGTERM are one line too, with 130
+    and 143. Where nobody reads the standard output any more the call ends without a word, with the
+    status of a program that SIGPIPE ended."""
     try:
         status = call()
         sys.stdout.flush()
@@ -21,9 +41,15 @@ def status_of(tool: str, call: Callable[[], int]) -> int:
     except BrokenPipeError:
         os.dup2(os.open(os.devnull, os.O_WRONLY), sys.stdout.fileno())
         return CLOSED_PIPE
-    except BadCall as fault:
-        text = str(fault)
+    except (KeyboardInterrupt, Signalled) as end:
+        number = end.number if isinstance(end, Signalled) else signal.SIGINT
+        status, text = (
+            128 + number,
+            "ended by Ctrl-C" if number == signal.SIGINT else "ended by SIGTERM",
+        )
+    except Fault as fault:
+        status, text = fault.status, str(fault)
     except OSError as fault:
-        text = f"{fault.filename}: {fault.strerror}" if fault.filename else str(fault)
+        status, text = 2, text_of(fault)
     print(f"{tool}: {text}", file=sys.stderr)
-    return 2
+    return status

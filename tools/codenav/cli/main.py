@@ -1,11 +1,14 @@
-"""The tools by one command: `codenav-tools TOOL ..`, or `python3 -m codenav TOOL ..`. A tool's
-module is loaded when it's called."""
+"""The command `codenav`: its words are those of the program, which is called for them, and those of
+the tools, each of which is a module that's loaded when it's called."""
 
 import importlib
+import os
+import signal
 import sys
-from typing import Callable, NamedTuple, Optional
+from typing import Any, Callable, NamedTuple, NoReturn, Optional
 
-from codenav.cli.ends import status_of
+from codenav import VERSION
+from codenav.cli.ends import raise_signal, status_of
 from codenav.faults import BadCall
 
 
@@ -22,67 +25,121 @@ class Tool(NamedTuple):
 PACKAGES = {"google": "python3-protobuf"}
 TOOLS = {
     "publish": Tool(
-        "publishing.publish", "from a checkout to answers: index, prepare, check, upload"
+        "cli.publish",
+        "from a checkout to answers: index, prepare, check, upload",
+        command="PUBLISH",
     ),
-    "prepare-lsif": Tool(
-        "dumps.prepare.prepare", "make a dump that the server accepts of an indexer's"
+    "prepare": Tool(
+        "cli.prepare", "make a dump that the server takes of an indexer's", command="PREPARE"
     ),
-    "scip-to-lsif": Tool("dumps.scip.to_lsif", "make a dump of a SCIP index"),
-    "surface-lsif": Tool("sets.surface.surface", "make of a dump what other servers need of it"),
-    "split-lsif": Tool("sets.split.split", "split a dump that is too large into parts"),
-    "publish-set": Tool("sets.publish.publish", "put a split dump on a server"),
-    "upload-lsif": Tool("client.upload", "upload a dump", ("lsif",)),
-    "upload-tags": Tool("client.upload", "upload a tags file", ("tags",)),
-    "remove": Tool("cli.projects", "remove a project", command="REMOVE"),
+    "upload": Tool("cli.upload", "upload dumps, tags files or a set", command="UPLOAD"),
+    "rebalance": Tool("cli.rebalance", "put kept sets where they belong", command="REBALANCE"),
     "list": Tool("cli.projects", "list the projects of a server", command="LIST"),
-    "ask": Tool("cli.ask", "ask what is at a place, or for a name"),
-    "lsp": Tool("lsp.bridge", "serve an editor by the Language Server Protocol"),
-    "browse": Tool("browse.command", "show a folder's files as web pages with answers"),
-    "explain-fault": Tool("dumps.check.explain", "say what is wrong with a dump that is refused"),
-    "why": Tool("dumps.check.why", "say of a dump why an answer is what it is"),
-    "supervise": Tool("service.supervise", "keep a server running over a folder"),
-    "turn": Tool("service.turn", "start a service's server anew, with no request lost"),
-    "backup": Tool("service.backup", "copy a service's database while it runs"),
-    "restore": Tool("service.restore", "put a copy in the place of a service's database"),
-    "try-it": Tool("cli.try_it", "try the whole way, in a clone"),
+    "remove": Tool("cli.projects", "remove a project", command="REMOVE"),
+    "ask": Tool("cli.ask", "ask what is at a place, or for a name", command="ASK"),
+    "lsp": Tool("cli.lsp", "serve an editor by the Language Server Protocol", command="LSP"),
+    "browse": Tool(
+        "cli.browse", "show a folder's files as web pages with answers", command="BROWSE"
+    ),
+    "why": Tool("cli.explain", "say of a dump why an answer is what it is", command="WHY"),
+    "explain": Tool(
+        "cli.explain", "say what is wrong with a dump that is refused", command="EXPLAIN"
+    ),
+    "supervise": Tool("cli.service", "keep a server running over a folder", command="SUPERVISE"),
+    "turn": Tool("cli.service", "start a service's server anew, losing no request", command="TURN"),
+    "backup": Tool("cli.service", "copy a service's database while it runs", command="BACKUP"),
+    "restore": Tool("cli.service", "put a copy in a service's database's place", command="RESTORE"),
+    "try-it": Tool("cli.try_it", "try the whole way, on a demo", command="TRY_IT"),
+}
+OWN = {
+    "serve": "serve a database on a port of 127.0.0.1",
+    "replay": "answer the requests of a file",
+    "migrate": "bring a database of an earlier version to this one",
+    "check-lsif": "check a dump by the server's rules",
+    "check-tags": "check a tags file",
 }
 
 
 def usage() -> str:
     """How the command is called."""
-    width = max(map(len, TOOLS))
-    rows = "\n".join(f"  {name:{width}}  {tool.text}" for name, tool in TOOLS.items())
-    return f"usage: codenav-tools TOOL ..\n\ntools, each of which has --help:\n{rows}"
+    texts = {name: tool.text for name, tool in TOOLS.items() if tool.text}
+    groups = {"tools:": texts, "the program:": OWN}
+    rows = [
+        row
+        for title, group in groups.items()
+        for row in [title, *(f"  {name:10}  {text}" for name, text in group.items())]
+    ]
+    return "\n".join(
+        ["usage: codenav WORD ..      each has --help; --version says what's here", *rows]
+    )
 
 
-def main_of(name: str) -> Callable[[list[str]], int]:
-    """What a tool is called by. Raises BadCall where it needs a package that isn't installed."""
-    tool = TOOLS[name]
+def version() -> str:
+    """Which tools and which program these are, and whether that's known to be proved."""
+    from codenav.program import NONE, Program  # here, for it takes `ask` long to load
+
+    program = Program.found()
+    if program is None:
+        return f"codenav {VERSION}\n{NONE}"
+    said = program.called("--version").out.split()
+    proved = "proved" if program.is_proved() else "not known to be proved"
+    return f"codenav {VERSION}\nthe program {said[-1] if said else '?'}, {proved}: {program.path}"
+
+
+def module_of(name: str) -> Any:
+    """The module of a tool. Raises BadCall where it needs a package that isn't installed."""
     try:
-        module = importlib.import_module(f"codenav.{tool.module}")
+        return importlib.import_module(f"codenav.{TOOLS[name].module}")
     except ModuleNotFoundError as fault:
         package = PACKAGES.get((fault.name or "").partition(".")[0])
         if package is None:
             raise
         raise BadCall(f"it needs Debian's {package}, which isn't installed") from None
+
+
+def main_of(name: str) -> Callable[[list[str]], int]:
+    """What a tool is called by. Raises BadCall."""
+    tool, module = TOOLS[name], module_of(name)
     if tool.command:
         return lambda words: int(getattr(module, tool.command).main(words))
     return lambda words: int(module.main(*tool.first, words))
 
 
+def called(name: str, words: list[str]) -> int:
+    """Calls a word. The program takes this process's place."""
+    if name in OWN:
+        from codenav.program import Program
+
+        os.execv(Program.needed().path, ["codenav", name, *words])
+    return main_of(name)(words)
+
+
 def main(words: Optional[list[str]] = None) -> int:
-    """Calls a tool; answers its status, and 2 where there's no such tool."""
+    """Calls a word; answers its status, and 2 where there's no such word."""
     words = sys.argv[1:] if words is None else words
-    if words[:1] in (["--help"], ["-h"]):
-        print(usage())
+    if words[:1] in (["--help"], ["-h"], ["--version"], ["-V"]):
+        print(version() if words[0] in ("--version", "-V") else usage())
         return 0
-    if not words or words[0] not in TOOLS:
-        named = f"no tool {words[0]!r}: " if words else ""
-        print(f"codenav-tools: {named}codenav-tools --help lists the tools", file=sys.stderr)
+    if not words or words[0] not in {*TOOLS, *OWN}:
+        named = f"no word {words[0]!r}: " if words else ""
+        print(f"codenav: {named}codenav --help lists the words", file=sys.stderr)
         return 2
     name, rest = words[0], words[1:]
-    return status_of(name, lambda: main_of(name)(rest))
+    return status_of(f"codenav {name}", lambda: called(name, rest))
 
 
-if __name__ == "__main__":
-    sys.exit(main())
+def ended() -> int:
+    """The status of the command line's call, that of one that makes none too."""
+    try:
+        return main()
+    except SystemExit as end:
+        return int(end.code or 0)
+
+
+def run() -> NoReturn:
+    """Calls the word of the command line, and ends the process: at once, and not after Python has
+    freed all its modules, which takes longer than a question."""
+    signal.signal(signal.SIGTERM, raise_signal)
+    status = status_of("codenav", ended)
+    sys.stderr.flush()
+    os._exit(status)

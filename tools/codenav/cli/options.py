@@ -9,8 +9,9 @@ from codenav.names import PROJECT
 
 
 class Help(argparse.HelpFormatter):
-    """Lays out help as argparse does, which loads `shutil` at each argument for the width of the
-    terminal; that takes longer than a question."""
+    """Lays out help as argparse does, but keeps paragraphs apart, and those that are set in as they
+    are. argparse loads `shutil` at each
+    argument for the width of the terminal; that takes longer than a question."""
 
     def __init__(self, prog: str) -> None:
         try:
@@ -18,6 +19,13 @@ class Help(argparse.HelpFormatter):
         except (OSError, ValueError):
             columns = 80
         super().__init__(prog, width=columns - 2)
+
+    def _fill_text(self, text: str, width: int, indent: str) -> str:
+        fill = super()._fill_text
+        return "\n\n".join(
+            part if part.startswith("  ") else fill(part, width, indent)
+            for part in text.split("\n\n")
+        )
 
 
 URL_HELP = (

@@ -23,13 +23,14 @@ LOG = "-wal"
 
 @dataclass(frozen=True)
 class Serving:
-    """The process that keeps the service, its server, how often turns were taken, and what became
-    of the last one."""
+    """The process that keeps the service, its server, how often turns were taken and tried, and
+    what became of the last one."""
 
     supervisor: int
     server: int
     side: str
     turns: int = 0
+    tries: int = 0
     last: str = ""
 
 

@@ -1,79 +1,60 @@
-"""Keeps a server running over the database of a folder: starts it again when it has ended, says why
-where it can't be started, and lets a new one take its place.
+"""Keeps a server running over the database of a folder: starts it again when it has ended, finds
+out why where it can't be started, and lets a new one take its place.
 
-SIGHUP takes a turn: a new server over a copy of the database takes the place of the old one. With
---front, reads go on meanwhile and writes wait; without it the server is ended and started again. A
-turn is also taken before the requests of a run are over. SIGTERM ends the server and the service.
-
-The digest of the database is kept when a server has ended, and compared before the next start.
+A server is in one pair of hands at a time: it's launched, watched until it has ended, and what
+became of it is looked at then; a turn hands on the one that runs, whatever becomes of the turn.
 """
 
-import argparse
 import os
 import signal
-import sys
 import time
-from typing import Optional
+from typing import Optional, Union
 
-from codenav.cli.ends import status_of
-from codenav.faults import BadCall
-from codenav.names import server_of
+from codenav.program import Running
+from codenav.progress import Shows
 from codenav.service import digests
-from codenav.service.folder import DATABASE, Serving, database_at, locked, note, side_of
+from codenav.service.folder import Serving, database_at, locked, note, side_of
 from codenav.service.front import NoFront, told
 from codenav.service.refusals import Refusal, refusal_by, refusal_of
-from codenav.service.server import Call, Server
-from codenav.service.turning import NotTurned, Turn
+from codenav.service.turning import How, NotTurned, Turn
 
-TOOL = "supervise"
 LASTING = 78
 PAUSE, LONG_PAUSE = 0.2, 1.0
 TICK = 0.05
 LOOK = 1.0
 SPENT = 0.9
-
-
-def say(text: str) -> None:
-    print(f"{TOOL}: {text}", file=sys.stderr, flush=True)
-
-
-class Ended(Exception):
-    """The service ends, with a status."""
-
-    def __init__(self, status: int) -> None:
-        super().__init__()
-        self.status = status
+NO_FRONT = "started again, since there's no --front"
 
 
 class Supervisor:
     """The service of a folder."""
 
-    def __init__(self, folder: str, call: Call, front: Optional[str]) -> None:
-        self.folder, self.call, self.front = os.path.abspath(folder), call, front
+    def __init__(self, folder: str, how: How, front: Optional[str], shows: Shows) -> None:
+        self.folder, self.how, self.front, self.shows = os.path.abspath(folder), how, front, shows
         self.stops = self.turns_now = False
-        self.turns, self.last, self.refused = 0, "", ""
-        self.side, self.asked_before, self.looked = "", -1, 0.0
-        self.server: Optional[Server] = None
+        self.side, self.turns, self.tries, self.last, self.refused = "", 0, 0, "", ""
+        self.asked_before, self.looked = -1, 0.0
 
     def stop(self, *_: object) -> None:
+        """Is called by SIGTERM."""
         self.stops = True
 
     def turn_now(self, *_: object) -> None:
+        """Is called by SIGHUP."""
         self.turns_now = True
 
-    def run(self) -> None:
-        """Serves until SIGTERM. Raises Ended where no server can be started by itself."""
+    def run(self) -> int:
+        """Serves until SIGTERM. Answers 0 then, and 78 where no server can be started by itself."""
         signal.signal(signal.SIGTERM, self.stop)
         signal.signal(signal.SIGINT, self.stop)
         signal.signal(signal.SIGHUP, self.turn_now)
         while not self.stops:
-            try:
-                self.start()
-                self.watch()
-                self.finish()
-            except OSError as fault:
-                self.refuse(refusal_by(fault, self.folder))
+            found = self.started()
+            refusal = self.finished(self.watched(found)) if isinstance(found, Running) else found
+            if refusal is not None and not self.may_wait(refusal):
+                return LASTING
             self.rest(LONG_PAUSE if self.refused else PAUSE)
+        return 0
 
     def rest(self, seconds: float) -> None:
         """Waits, but not after SIGTERM."""
@@ -81,40 +62,42 @@ class Supervisor:
         while not self.stops and time.monotonic() < stop:
             time.sleep(TICK)
 
-    def start(self) -> None:
-        """Starts a server over the database in use, where that's as it was left."""
-        with locked(self.folder):
-            self.side = side_of(self.folder)
-            database = database_at(self.folder, self.side)
-            os.makedirs(os.path.dirname(database), mode=0o700, exist_ok=True)
-            changed = digests.difference(database)
-            if changed:
-                say(changed)
-                raise Ended(LASTING)
-            digests.forget(database)
-            self.server = Server(self.call, database, self.call.ports[self.side == "b"])
-            self.noted()
-
-    def noted(self) -> None:
-        """Says who serves, where the disk has room for it: `turn` asks for that alone."""
-        assert self.server is not None
-        server = self.server.process.pid
+    def started(self) -> Union[Running, Refusal]:
+        """A server over the database in use, where that's as it was left, or why there's none."""
         try:
-            note(self.folder, Serving(os.getpid(), server, self.side, self.turns, self.last))
+            with locked(self.folder):
+                self.side = side_of(self.folder)
+                database = database_at(self.folder, self.side)
+                os.makedirs(os.path.dirname(database), mode=0o700, exist_ok=True)
+                if changed := digests.difference(database):
+                    return Refusal(changed, False)
+                digests.forget(database)
+                server = self.how.launched(self.folder, self.side)
+                self.noted(server)
+                return server
         except OSError as fault:
-            say(f"{self.folder}/server isn't written: {fault.strerror}")
+            return refusal_by(fault, self.folder)
 
-    def watch(self) -> None:
-        """Looks after the server until it has ended, or is to end."""
-        assert self.server is not None
+    def noted(self, server: Running) -> None:
+        """Says who serves, where the disk has room for it: `turn` asks for that alone."""
+        known = os.getpid(), server.pid, self.side, self.turns, self.tries, self.last
+        try:
+            note(self.folder, Serving(*known))
+        except OSError as fault:
+            self.shows.warn(f"{self.folder}/server isn't written: {fault.strerror}")
+
+    def watched(self, server: Running) -> Running:
+        """Looks after a server until it has ended, or is to end; answers the one that took its
+        place where one did."""
         begin, was_said = time.monotonic(), False
-        while self.server.is_there() and not self.stops:
-            if not was_said and self.server.listens():
+        while server.is_there() and not self.stops:
+            if not was_said and server.listens():
                 was_said, self.refused = True, ""
-                say(f"serves {self.server.database} after {time.monotonic() - begin:.1f} s")
+                self.shows.warn(f"serves {server.database} after {time.monotonic() - begin:.1f} s")
             if was_said and self.is_due():
-                self.turn()
+                server = self.turned(server)
             time.sleep(TICK)
+        return server
 
     def is_due(self) -> bool:
         """Whether a turn is asked for, or the run has few requests left. A front that holds writes
@@ -135,93 +118,51 @@ class Supervisor:
             return False
         if state.asked < self.asked_before or self.asked_before < 0:
             self.asked_before = state.asked
-        return state.asked - self.asked_before > SPENT * self.call.requests
+        return state.asked - self.asked_before > SPENT * self.how.requests
 
-    def turn(self) -> None:
-        """Takes a turn, or starts the server anew where there's no front that could hold writes."""
-        assert self.server is not None
-        self.turns_now = False
+    def turned(self, server: Running) -> Running:
+        """The server that took the place of another by a turn, or that other where no turn was
+        taken. Where no front could hold writes it's ended, and so started anew."""
+        self.turns_now, self.asked_before, self.tries = False, -1, self.tries + 1
         if self.front is None:
-            self.turns, self.last = self.turns + 1, "started again, since there's no --front"
-            self.server.end()
-            return
-        turn = Turn(self.folder, self.front, self.call, self.side, self.server, lambda: self.stops)
+            self.turns, self.last = self.turns + 1, NO_FRONT
+            server.end()
+            return server
+        turn = Turn(self.folder, self.front, self.how, self.side, server, lambda: self.stops)
         try:
             with locked(self.folder):
-                self.server, said = turn.taken()
-                self.side = side_of(self.folder)
-                self.turns, self.last = self.turns + 1, said
-                self.noted()
+                server, self.last = turn.taken()
+                self.side, self.turns = side_of(self.folder), self.turns + 1
         except NotTurned as fault:
             self.last = f"no turn: {fault}"
-            self.noted()
-        self.asked_before = -1
-        say(self.last)
-
-    def finish(self) -> None:
-        """Keeps the digest of a database whose server has ended. Raises Ended where a start was
-        refused for good."""
-        assert self.server is not None
-        if self.server.is_there():
-            self.server.end()
-        said, status = self.server.last_words(), self.server.process.returncode
-        self.asked_before = -1
-        if self.server.listens():
-            self.keep_digest(self.server.database)
-        if status == 2:
-            self.refuse(refusal_of(said, self.server.database))
-        else:
-            say(f"the server ended with status {status}")
-
-    def keep_digest(self, database: str) -> None:
-        """Keeps the digest, where the disk has room for it."""
-        try:
-            digests.keep(database)
         except OSError as fault:
-            say(f"no digest of {database} is kept: {fault.strerror}")
+            self.last = f"no turn: {refusal_by(fault, self.folder).text}"
+        self.noted(server)
+        self.shows.warn(self.last)
+        return server
 
-    def refuse(self, refusal: Refusal) -> None:
-        """Says once why no server can be started, and ends the service where a person has to mend
-        it."""
+    def finished(self, server: Running) -> Optional[Refusal]:
+        """Ends a server that's still there, and keeps the digest of its database. Answers why it
+        was refused, where it was."""
+        has_served = server.listens()
+        server.end()
+        self.asked_before, said = -1, server.last_words()
+        for line in said.splitlines():
+            self.shows.warn(line)
+        if has_served:
+            try:
+                digests.keep(server.database)
+            except OSError as fault:
+                self.shows.warn(f"no digest of {server.database} is kept: {fault.strerror}")
+        if server.process.returncode == 2:
+            return refusal_of(said.rpartition("\n")[2], server.database)
+        self.shows.warn(f"the server ended with status {server.process.returncode}")
+        return None
+
+    def may_wait(self, refusal: Refusal) -> bool:
+        """Says once why no server can be started; answers whether another try may help, and not a
+        person alone."""
         if refusal.text != self.refused:
-            say(refusal.text)
+            self.shows.warn(refusal.text)
         self.refused = refusal.text
-        if not refusal.may_pass:
-            raise Ended(LASTING)
-
-
-def made(call: argparse.Namespace) -> int:
-    """Runs the service."""
-    if not os.path.isdir(call.folder):
-        raise BadCall(f"{call.folder}: no such folder")
-    ports = call.port, call.second_port or call.port + 1
-    front = server_of(call.front) if call.front else None
-    supervisor = Supervisor(call.folder, Call(call.program, ports, call.requests), front)
-    try:
-        supervisor.run()
-    except Ended as end:
-        return end.status
-    return 0
-
-
-def main(words: Optional[list[str]] = None) -> int:
-    """Answers 0 after SIGTERM, 78 where a person has to mend something, and 2 where the call can't
-    be carried out."""
-    parser = argparse.ArgumentParser(
-        prog=TOOL,
-        description=__doc__,
-        formatter_class=argparse.RawDescriptionHelpFormatter,
-        epilog="Status 0 after SIGTERM; 78 where the database has to be mended by a person; 2 where the call can't be carried out.",
-    )
-    parser.add_argument("--program", default="codenav", help="the program; codenav without it")
-    parser.add_argument("--port", type=int, default=8090, help="of the first side; 8090")
-    parser.add_argument("--second-port", type=int, help="of the second side; the next one")
-    parser.add_argument("--requests", type=int, default=1_000_000, help="of a run; 1000000")
-    parser.add_argument(
-        "--front", metavar="URL", help="the front's own port, as http://127.0.0.1:8089"
-    )
-    parser.add_argument(
-        "folder", metavar="FOLDER", help=f"has the database, in a/{DATABASE} or b/{DATABASE}"
-    )
-    call = parser.parse_args(words)
-    return status_of(TOOL, lambda: made(call))
+        return refusal.may_pass

@@ -13,9 +13,10 @@ from dataclasses import dataclass
 from typing import Callable, Optional
 
 from codenav.faults import BadCall
+from codenav.program import Program, Running
 from codenav.service.folder import database_at, other, use
 from codenav.service.front import NoFront, State, told
-from codenav.service.server import Call, Server
+from codenav.service.refusals import refusal_by
 from codenav.service.standing import copied, emptied, settled
 
 HOLD = 10
@@ -27,15 +28,29 @@ class NotTurned(Exception):
     """A turn that wasn't taken; the text says why. The server that ran goes on."""
 
 
-@dataclass
+@dataclass(frozen=True)
+class How:
+    """How a server of a service is started: each side has its port."""
+
+    program: Program
+    ports: tuple[int, int]
+    requests: int
+
+    def launched(self, folder: str, side: str) -> Running:
+        """A server over the database of a side, which may not listen yet."""
+        port = self.ports[side == "b"]
+        return self.program.launch(database_at(folder, side), port, self.requests, True)
+
+
+@dataclass(frozen=True)
 class Turn:
     """What a turn is made of."""
 
     folder: str
     front: str
-    call: Call
+    how: How
     side: str
-    server: Server
+    server: Running
     is_stopping: Callable[[], bool]
 
     def held(self, is_first: bool = False) -> State:
@@ -73,28 +88,28 @@ class Turn:
         emptied(target)
         database = database_at(self.folder, self.side)
         try:
-            stood = copied(database, target, self.server.process.pid)
+            stood = copied(database, target, self.server.pid)
         except BadCall as fault:
             raise NotTurned(str(fault)) from None
         settled(target)
         return stood
 
-    def started(self) -> Server:
+    def started(self) -> Running:
         """A server over the copy, which listens."""
-        side = other(self.side)
-        port = self.call.ports[side == "b"]
-        server = Server(self.call, database_at(self.folder, side), port)
+        server = self.how.launched(self.folder, other(self.side))
         try:
             self.wait(lambda: server.listens() or not server.is_there(), None, "")
             if not server.listens():
-                raise NotTurned(f"the new server ended: {server.last_words()}")
+                server.end()
+                said = server.last_words().rpartition("\n")[2]
+                raise NotTurned(f"the new server ended: {said}")
         except NotTurned:
             server.end()
             raise
         return server
 
-    def switch(self, server: Server) -> None:
-        """Goes to the new server, where writes were held until now. A front that doesn't answer is
+    def switch(self) -> None:
+        """Goes to the new side, where writes were held until now. A front that doesn't answer is
         told the side later."""
         self.held()
         use(self.folder, other(self.side))
@@ -106,7 +121,7 @@ class Turn:
             use(self.folder, self.side)
             raise NotTurned("writes weren't held until the end")
 
-    def taken(self) -> tuple[Server, str]:
+    def taken(self) -> tuple[Running, str]:
         """The new server, and what is to be said of the turn. Raises NotTurned, and lets writes go
         on, where it can't be taken."""
         begin = time.monotonic()
@@ -117,13 +132,16 @@ class Turn:
             self.held()
             server = self.started()
             try:
-                self.switch(server)
-            except NotTurned:
+                self.switch()
+            except (NotTurned, OSError):
                 server.end()
                 raise
         except NotTurned:
             self.given_up()
             raise
+        except OSError as fault:
+            self.given_up()
+            raise NotTurned(refusal_by(fault, self.folder).text) from None
         waited = time.monotonic() - begin
         self.server.end()
         shutil.rmtree(os.path.join(self.folder, self.side), ignore_errors=True)

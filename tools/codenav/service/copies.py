@@ -1,0 +1,106 @@
+"""Copies of the database of a service, made while its server runs, and put back in its place.
+
+A copy is a folder of TARGET, named by its time in UTC, that is there whole or not at all. The
+server stands for as long as both files are copied; the copy is tried by a start of the program over
+it. Beside its files is their digest, which is compared before it's put back.
+"""
+
+import os
+import shutil
+import time
+from typing import NamedTuple
+
+from codenav.faults import BadCall
+from codenav.program import Program
+from codenav.service import digests
+from codenav.service.folder import DATABASE, database_at, locked, other, serving_of, side_of, use
+from codenav.service.locks import UNSEEN, holder_of
+from codenav.service.standing import copied, copy_file, emptied, has_database, settled
+
+NAME = "%Y%m%dT%H%M%SZ"
+UNFINISHED = ".unfinished"
+
+
+class Copy(NamedTuple):
+    """A copy: its folder, the bytes of its files, and for how many seconds the server stood."""
+
+    folder: str
+    size: int
+    stood: float
+
+
+def copies(target: str) -> list[str]:
+    """The names of the copies, the oldest first."""
+    names = (name for name in os.listdir(target) if name.endswith("Z") and name[0] != ".")
+    return sorted(name for name in names if has_database(os.path.join(target, name)))
+
+
+def copied_now(folder: str, new: str) -> float:
+    """Copies the database in use, and answers for how long its server stood."""
+    with locked(folder):
+        database = database_at(folder, side_of(folder))
+        if not os.path.isfile(database):
+            raise BadCall(f"{database}: no database")
+        holder = holder_of(database)
+        if holder == UNSEEN:
+            raise BadCall(f"{database}: a process that can't be seen here has it")
+        return copied(database, new, holder)
+
+
+def backup(program: Program, folder: str, target: str, keep: int) -> Copy:
+    """Makes a copy, and removes the oldest of those that are too many. The start over the copy
+    reads and checks all of it, with no request. Raises BadCall."""
+    os.makedirs(target, mode=0o700, exist_ok=True)
+    new = os.path.join(target, UNFINISHED)
+    with locked(target):
+        emptied(new)
+        try:
+            stood = copied_now(folder, new)
+            tried = program.called("replay", os.path.join(new, DATABASE), os.devnull)
+            if tried.status != 0:
+                raise BadCall(f"the copy is refused: {tried.warned.strip()}")
+            digests.keep(os.path.join(new, DATABASE))
+            settled(new)
+            made = os.path.join(target, time.strftime(NAME, time.gmtime()))
+            os.rename(new, made)
+        finally:
+            shutil.rmtree(new, ignore_errors=True)
+        for name in copies(target)[:-keep]:
+            shutil.rmtree(os.path.join(target, name))
+    files = digests.files_of(os.path.join(made, DATABASE))
+    return Copy(made, sum(map(os.path.getsize, files)), stood)
+
+
+def put(copy: str, folder: str) -> None:
+    """Copies into the side that isn't in use, and then names that one; the database that was in use
+    stays beside until the next call."""
+    old = side_of(folder)
+    target, before = os.path.join(folder, other(old)), os.path.join(folder, "before")
+    emptied(target)
+    for path in digests.files_of(os.path.join(copy, DATABASE)):
+        copy_file(path, os.path.join(target, os.path.basename(path)))
+    owner = os.stat(folder)
+    for path in [target, *digests.files_of(os.path.join(target, DATABASE))]:
+        os.chown(path, owner.st_uid, owner.st_gid)
+        os.chmod(path, 0o700 if path == target else 0o600)
+    settled(target)
+    use(folder, other(old))
+    os.chown(os.path.join(folder, "side"), owner.st_uid, owner.st_gid)
+    shutil.rmtree(before, ignore_errors=True)
+    if os.path.isdir(os.path.join(folder, old)):
+        os.rename(os.path.join(folder, old), before)
+
+
+def restore(copy: str, folder: str) -> None:
+    """Puts a copy that's as it was when it was made in the place of a service's database. Raises
+    BadCall."""
+    if not has_database(copy):
+        raise BadCall(f"{copy}: no copy of a database")
+    if digests.difference(os.path.join(copy, DATABASE)):
+        raise BadCall(f"{copy}: the copy changed since it was made")
+    os.makedirs(folder, mode=0o700, exist_ok=True)
+    with locked(folder):
+        database = database_at(folder, side_of(folder))
+        if serving_of(folder) or holder_of(database) is not None:
+            raise BadCall(f"{folder}: stop the service first")
+        put(copy, folder)
