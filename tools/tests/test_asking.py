@@ -11,7 +11,7 @@ from codenav.cli import ask
 from codenav.client import upload
 from codenav.dumps.prepare import prepare
 from codenav.texts import places
-from tests.servers import TOP, OnServer
+from tests.servers import TOP, OnServer, command
 
 CRATE = os.path.join(TOP, "demo", "crate")
 RAW = os.path.join(TOP, "demo", "crate.raw.lsif")
@@ -125,8 +125,16 @@ class Asking(OnServer):
         )
 
     def test_a_pipe_that_is_closed(self) -> None:
-        tool = os.path.join(TOP, "tools", "ask")
-        words = [tool, "--tags", f"app={CRATE}", self.url, "app", "names", "--prefix", "r"]
+        words = [
+            *command("ask"),
+            "--tags",
+            f"app={CRATE}",
+            self.url,
+            "app",
+            "names",
+            "--prefix",
+            "r",
+        ]
         with subprocess.Popen(words, stdout=subprocess.PIPE, stderr=subprocess.PIPE) as run:
             assert run.stdout is not None and run.stderr is not None
             run.stdout.close()

@@ -3,11 +3,10 @@ with status 2, and the set answers as before."""
 
 import os
 import subprocess
-import sys
 import unittest
 
 from codenav.sets.publish.publish import Store
-from tests.servers import TOP
+from tests.servers import TOP, command
 from tests.test_set_service import CRATE, LIB, MAP, NAME, OnFile, Revisions
 
 RAW = os.path.join(TOP, "demo", "crate.raw.lsif")
@@ -28,7 +27,7 @@ class BadInput(OnFile):
     def launched(self, tool: str, *words: str) -> "subprocess.Popen[str]":
         """A call of a tool."""
         return subprocess.Popen(
-            [sys.executable, "-B", os.path.join(TOP, "tools", tool), *words],
+            [*command(tool), *words],
             stdin=subprocess.DEVNULL,
             stdout=subprocess.PIPE,
             stderr=subprocess.PIPE,

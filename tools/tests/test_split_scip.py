@@ -6,7 +6,6 @@ import io
 import os
 import random
 import subprocess
-import sys
 import tempfile
 import tracemalloc
 import unittest
@@ -32,7 +31,7 @@ from tests.dump_walks import answered
 from tests.random_scip import indexes
 from tests.randomly import check_cases
 from tests.scip_model import Model
-from tests.servers import TOP
+from tests.servers import TOP, command
 from tests.test_samples import SAMPLES, groups
 from tests.test_scip import APP, DEFINITION, document, information, metadata, occurrence
 from tests.test_scip_answers import is_said, questions
@@ -203,10 +202,9 @@ class SplitIndex(unittest.TestCase):
     def test_standard_input(self) -> None:
         """An index on the standard input."""
         out = os.path.join(self.folder, "out")
-        tool = os.path.join(TOP, "tools", "split-lsif")
         with open(INDEX, "rb") as file:
             done = subprocess.run(
-                [sys.executable, tool, "--source", SOURCE, "-", out],
+                [*command("split-lsif"), "--source", SOURCE, "-", out],
                 stdin=file,
                 capture_output=True,
                 check=False,

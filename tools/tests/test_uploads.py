@@ -18,7 +18,7 @@ from codenav.client import upload
 from codenav.client.http import address, found_in, request
 from codenav.program import Program
 from tests.repository import git_in
-from tests.servers import NOT_BUILT, TOP, OnServer, Relay, built_program
+from tests.servers import NOT_BUILT, OnServer, Relay, built_program, command
 from tests.test_explain import DOCUMENT, META, edge, vertex
 
 DUMP = """{"id":1,"type":"vertex","label":"metaData","version":"0.6.0"}
@@ -168,8 +168,7 @@ class Uploads(OnServer):
             with self.subTest(path), Program(self.program).serve() as server:
                 url = server.url
                 with Relay(url, 1) as relay, open(self.files["A"], "rb") as file:
-                    tool = os.path.join(TOP, "tools", "upload-lsif")
-                    words = [tool, "--retry", relay.url, "app", path]
+                    words = [*command("upload-lsif"), "--retry", relay.url, "app", path]
                     subprocess.run(words, input=file.read(), capture_output=True, check=True)
                 self.assertEqual((self.there(url), relay.taken), (("A", ""), 2))
 
