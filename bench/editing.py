@@ -58,8 +58,7 @@ def write(path: str, text: str) -> None:
 
 def tool(name: str, *words: str) -> None:
     """Calls a tool, which has to succeed."""
-    command = [*command(name), *words]
-    subprocess.run(command, check=True, capture_output=True)
+    subprocess.run([*command(name), *words], check=True, capture_output=True)
 
 
 def opened(folder: str, *words: str) -> Editor:

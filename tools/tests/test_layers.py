@@ -41,10 +41,6 @@ lsp.bridge -> cli.options
 publishing.publish -> cli.ends
 publishing.publish -> cli.main
 publishing.publish -> cli.options
-service.backup -> cli.ends
-service.restore -> cli.ends
-service.supervise -> cli.ends
-service.turn -> cli.ends
 sets.publish.publish -> cli.ends
 sets.publish.rebalance -> asking.known
 sets.publish.rebalance -> asking.questions
@@ -92,20 +88,10 @@ dumps.tables.graph: print
 dumps.tables.of_scip: argparse
 lsp.bridge: argparse
 lsp.bridge: print
-program: print
 progress: print
 publishing.publish: argparse
 publishing.publish: print
 publishing.publish: sys.argv
-service.backup: argparse
-service.backup: print
-service.restore: argparse
-service.restore: print
-service.server: print
-service.supervise: argparse
-service.supervise: print
-service.turn: argparse
-service.turn: print
 sets.publish.publish: argparse
 sets.publish.publish: print
 sets.publish.rebalance: argparse

@@ -59,9 +59,9 @@ class OneCommand(unittest.TestCase):
                 with open(path, "w", encoding="utf-8") as out:
                     out.write("#!/bin/sh\necho codenav 7.8\n")
                 os.chmod(path, 0o755)
-                status, printed, _ = self.called("--version", CODENAV_PROGRAM=path)
                 wanted = f"codenav {VERSION}\nthe program 7.8, {said}: {path}\n"
-                self.assertEqual((status, printed), (0, wanted))
+                found = self.called("--version", CODENAV_PROGRAM=path)
+                self.assertEqual(found, (0, wanted, ""))
 
     def called(self, *words: str, **more: str) -> tuple[int, str, str]:
         """The status of a call in a process of its own, and what it printed."""
@@ -83,10 +83,8 @@ class OneCommand(unittest.TestCase):
             self.assertEqual(
                 (said.getvalue() != "", warned.getvalue().count("\n")), (status == 0, status // 2)
             )
-        status, _, warned = self.called("restore", "/no/folder", "/no/other")
-        self.assertEqual(
-            (status, warned), (2, "codenav restore: /no/folder: no copy of a database\n")
-        )
+        found = self.called("restore", "/no/folder", "/no/other")
+        self.assertEqual(found, (2, "", "codenav restore: /no/folder: no copy of a database\n"))
 
     def test_the_program(self) -> None:
         """Its words are its own, wherever it is; where it's nowhere that's one line."""
@@ -120,10 +118,13 @@ class OneCommand(unittest.TestCase):
                 wanted = 128 + number, f"codenav list: ended by {text}\n"
                 self.assertEqual((call.returncode, warned), wanted)
         for words in ["--help"], ["turn", "--help"]:
-            pipes = {"stdout": subprocess.PIPE, "stderr": subprocess.PIPE}
-            with subprocess.Popen([*command(words[0]), *words[1:]], **pipes) as call:  # type: ignore[call-overload]
-                call.stdout.close()
-                self.assertEqual((call.stderr.read(), call.wait(SECONDS)), (b"", 141))
+            out, into = os.pipe()
+            os.close(out)
+            done = subprocess.run(
+                [*command(words[0]), *words[1:]], stdout=into, stderr=subprocess.PIPE, check=False
+            )
+            os.close(into)
+            self.assertEqual((done.stderr, done.returncode), (b"", 141))
 
 
 class Installed(OnServer):
