@@ -10,11 +10,11 @@ nothing of the other heads, as it would from the joint result set.
 
 from typing import Iterator
 
+from codenav.dumps.prepare.labels import HOVER, RANGE, REFERENCE, RESULT_OF, RESULT_SET
 from codenav.dumps.prepare.names import Bearer, Groups, symbols
+from codenav.dumps.prepare.numbers import NONE
 from codenav.dumps.prepare.plan import AS_SET, DROPPED, KEPT, MOVED, NewEdge, Options, Plan
-from codenav.dumps.prepare.survey import HOVER, NONE, RANGE, REFERENCE, RESULT_OF, RESULT_SET
 
-LISTED = ("textDocument/definition", "textDocument/declaration", "textDocument/implementation")
 REFERENCES, HOVERS = "textDocument/references", "textDocument/hover"
 
 

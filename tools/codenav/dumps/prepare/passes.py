@@ -6,8 +6,9 @@ from urllib.parse import unquote
 
 from codenav.addresses import below, folder_address
 from codenav.dumps.overlaps import by_home, sorted_out
+from codenav.dumps.prepare.labels import DOCUMENT, PROJECT, RANGE
+from codenav.dumps.prepare.numbers import NONE
 from codenav.dumps.prepare.plan import DROPPED, KEPT, MOVED, Options, Plan
-from codenav.dumps.prepare.survey import DOCUMENT, NONE, PROJECT, RANGE
 from codenav.faults import NotADump
 
 

@@ -10,17 +10,14 @@ from array import array
 from dataclasses import dataclass
 from typing import Optional
 
-from codenav.dumps.prepare.survey import MANY, MONIKER, NONE, RANGE, RESULT_SET, SINGLE, Survey
+from codenav.dumps.prepare.labels import FROM, INTO, RESULT_SET, SINGLE
+from codenav.dumps.prepare.numbers import NONE
+from codenav.dumps.prepare.survey import Survey
 from codenav.faults import NotADump
 
 KEPT, DROPPED, MOVED, AS_SET = range(4)
 """What becomes of a vertex: written as it is, or not; another stands for it; or it's a result
 set."""
-FROM = {
-    label: (MONIKER,) if label in ("packageInformation", "attach") else (RANGE, RESULT_SET)
-    for label in (*SINGLE, *MANY)
-}
-INTO = {**SINGLE, **MANY}
 MOST_STEPS = 20_000_000
 
 

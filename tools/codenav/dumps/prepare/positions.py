@@ -6,8 +6,8 @@ from urllib.parse import unquote_to_bytes
 
 from codenav.addresses import below, folder_address
 from codenav.dumps.overlaps import by_home
+from codenav.dumps.prepare.labels import RANGE
 from codenav.dumps.prepare.plan import DROPPED, KEPT, Options, Plan
-from codenav.dumps.prepare.survey import RANGE
 from codenav.faults import BadCall, NotADump
 from codenav.texts.columns import COUNTED, ENCODINGS, UTF_16, Columns
 from codenav.texts.decoded import body_of

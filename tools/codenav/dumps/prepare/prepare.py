@@ -27,6 +27,7 @@ from codenav.dumps.prepare.unreached import drop_unreached
 from codenav.dumps.prepare.vertices import VERSION, Mender
 from codenav.dumps.tables import rows
 from codenav.files import whole_file
+from codenav.kinds import KINDS
 from codenav.limits import excesses
 from codenav.outcome import MERGED, NO_EFFECT, Note, Notes, Outcome, Prepared
 from codenav.progress import Shows
@@ -43,37 +44,24 @@ PASSES: tuple[Callable[[Plan, Options], None], ...] = (
     join_equal,
 )
 """What decides what is written, in this order."""
-WITH_EFFECT = {
-    "vertex": {
-        "metaData",
-        "project",
-        "document",
-        "range",
-        "resultSet",
-        "definitionResult",
-        "referenceResult",
-        "hoverResult",
-        "moniker",
-        "packageInformation",
-        "$event",
-    },
-    "edge": {
-        "contains",
-        "next",
-        "moniker",
-        "packageInformation",
-        "attach",
-        "nextMoniker",
-        "item",
-        "textDocument/definition",
-        "textDocument/references",
-        "textDocument/hover",
-    },
+OF_ALL = {
+    ("vertex", "metaData"),
+    ("vertex", "project"),
+    ("vertex", "document"),
+    ("vertex", "range"),
+    ("vertex", "resultSet"),
+    ("vertex", "moniker"),
+    ("vertex", "packageInformation"),
+    ("vertex", "$event"),
+    ("edge", "contains"),
+    ("edge", "next"),
+    ("edge", "moniker"),
+    ("edge", "packageInformation"),
+    ("edge", "attach"),
+    ("edge", "nextMoniker"),
+    ("edge", "item"),
 }
-WITH_EFFECT_IN_TWO = {
-    "vertex": {"declarationResult", "implementationResult"},
-    "edge": {"textDocument/declaration", "textDocument/implementation"},
-}
+"""The labels that have an effect besides those of requests."""
 
 
 def surveyed(source: Source, options: Options, notes: Notes) -> Survey:
@@ -124,11 +112,12 @@ def merged(plan: Plan) -> Iterator[Note]:
 
 def without_effect(survey: Survey, profile: str) -> Iterator[Note]:
     """Which labels have no effect in a profile."""
-    for (kind, label), count in sorted(survey.labels.items()):
-        if label not in WITH_EFFECT[kind] and not (
-            profile == "2" and label in WITH_EFFECT_IN_TWO[kind]
-        ):
-            yield Note(NO_EFFECT, f"{kind} {label}", count)
+    asked = [kind for kind in KINDS if kind.is_of(profile)]
+    effective = OF_ALL | {("vertex", kind.result) for kind in asked}
+    effective |= {("edge", kind.edge) for kind in asked}
+    for (of, label), count in sorted(survey.labels.items()):
+        if (of, label) not in effective:
+            yield Note(NO_EFFECT, f"{of} {label}", count)
 
 
 def prepare(source: Source, out_path: str, options: Options, shows: Shows) -> Prepared:

@@ -10,20 +10,21 @@ from typing import Any, BinaryIO, Callable, Iterator, Optional
 
 from codenav.dumps.lsif.elements import Element, Id, Row, is_id, shard_of, targets_of
 from codenav.dumps.lsif.json_values import text_of
-from codenav.dumps.prepare.plan import AS_SET, DROPPED, FROM, KEPT, MOVED, Plan
-from codenav.dumps.prepare.survey import (
+from codenav.dumps.prepare.labels import (
     DECLARATION,
     DEFINITION,
     DOCUMENT,
+    FROM,
     IMPLEMENTATION,
     LABELS,
-    NONE,
     OTHER,
     PROJECT,
     RANGE,
     REFERENCE,
     SINGLE,
 )
+from codenav.dumps.prepare.numbers import NONE
+from codenav.dumps.prepare.plan import AS_SET, DROPPED, KEPT, MOVED, Plan
 from codenav.dumps.prepare.vertices import Mender
 from codenav.faults import NotADump
 from codenav.limits import MOST_LINE_BYTES

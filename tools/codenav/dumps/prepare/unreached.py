@@ -5,8 +5,8 @@ from array import array
 from itertools import chain
 from typing import Iterator
 
+from codenav.dumps.prepare.labels import DOCUMENT, METADATA, PROJECT, RANGE, SINGLE
 from codenav.dumps.prepare.plan import DROPPED, KEPT, Options, Plan
-from codenav.dumps.prepare.survey import DOCUMENT, METADATA, PROJECT, RANGE, SINGLE
 
 ROOTS = (METADATA, PROJECT, DOCUMENT, RANGE)
 LEADS = 3

@@ -20,21 +20,14 @@ from codenav.dumps.lsif.reading import MOST_ELEMENT_BYTES, SPACE
 from codenav.dumps.prepare.vertices import VERSION
 from codenav.dumps.tables.disk_arrays import Numbers
 from codenav.faults import NotADump
+from codenav.kinds import NUMBERED
 from codenav.progress import Shows
 
 DEFINITION, REFERENCES, HOVER, DECLARATION, IMPLEMENTATION = REQUESTS = range(5)
-EDGES = [
-    f"textDocument/{name}"
-    for name in ("definition", "references", "hover", "declaration", "implementation")
-]
-RESULTS = [
-    "definitionResult",
-    "referenceResult",
-    "hoverResult",
-    "declarationResult",
-    "implementationResult",
-]
-ASKED = {"1": 3, "2": 5}
+EDGES = [kind.edge for kind in NUMBERED]
+RESULTS = [kind.result for kind in NUMBERED]
+ASKED = {profile: sum(kind.is_of(profile) for kind in NUMBERED) for profile in ("1", "2")}
+"""How many requests a profile has, which come first."""
 WITH_PLACES = (DEFINITION, REFERENCES, DECLARATION, IMPLEMENTATION)
 BY_IMPORT = (DEFINITION, DECLARATION, IMPLEMENTATION)
 LINE = 1 << 31
