@@ -30,12 +30,12 @@ from typing import Any, Iterator
 TOP = os.path.dirname(os.path.dirname(os.path.abspath(__file__)))
 sys.path.insert(0, os.path.join(TOP, "tools"))
 
-from codenav.asking.index import Asked
+from codenav.asking.index import Index
 from codenav.client import http as client
 from codenav.client.http import found_in, request
 from codenav.program import Program, Running, free_port
-from codenav.sets.manifest import MANIFEST, Head, read_documents, read_head
-from tests.servers import command
+from codenav.sets.files import MANIFEST, read_documents, read_head
+from codenav.sets.manifest import Head
 
 TICKS = os.sysconf("SC_CLK_TCK")
 KINDS = {"definition": "places", "references": "places", "hover": "contents"}
@@ -171,7 +171,7 @@ class Asking:
     users: dict[str, set[str]] = field(default_factory=dict)
 
     def __post_init__(self) -> None:
-        self.asked = Asked(self.name, self.fetch)
+        self.asked = Index(self.name, self.fetch)
 
     def fetch(self, path: str, parameters: dict[str, Any], member: str) -> Any:
         """What the server answers."""

@@ -1,10 +1,20 @@
 """Why a call can't be carried out."""
 
+import re
+
+NO_DUMP, NO_DOCUMENT = "D01", "D02"
+CODE = re.compile("[A-Z][0-9]{2}(?= )")
+
 
 class Fault(Exception):
     """A call that ends with the status; the text is the one line to print."""
 
     status = 2
+
+    def code(self) -> str:
+        """The server's code that the text begins with, or nothing."""
+        found = CODE.match(str(self))
+        return found[0] if found else ""
 
 
 class BadCall(Fault):

@@ -10,7 +10,7 @@ from typing import Any, NamedTuple, Optional, Sequence
 from unittest import mock
 
 from codenav.asking.all_servers import names_of_all
-from codenav.asking.index import Asked, Found
+from codenav.asking.index import Found, Index
 from codenav.faults import NoReply
 from tests.in_memory import FRONT, Kept, Reader, Servers
 from tests.randomly import check_cases
@@ -57,7 +57,7 @@ class Query(NamedTuple):
             return scene.names[-self.number % len(scene.names)]
         return scene.asked[self.number % len(scene.asked)][0]
 
-    def found(self, asked: Asked, scene: Scene, reader: Reader) -> Any:
+    def found(self, asked: Index, scene: Scene, reader: Reader) -> Any:
         """What is found, or the code of a fault."""
         try:
             if self.number < 0:
@@ -71,7 +71,7 @@ class Query(NamedTuple):
                 return str(fault)[:3]
             raise
 
-    def names(self, asked: Asked, scene: Scene, reader: Reader) -> list[Found]:
+    def names(self, asked: Index, scene: Scene, reader: Reader) -> list[Found]:
         """The names that are found; those of all projects at each of several servers."""
         text, every = self.text()
         if not every or len(scene.servers) == 1:
@@ -94,14 +94,14 @@ class Query(NamedTuple):
 def wrong(history: History, queries: list[Query], schedule: list[int]) -> Any:
     """The first answer that is wrong where the requests come in an order: the number of its query,
     what was found, and what may be."""
-    scene, kept = history.scene, dict[str, Asked]()
+    scene, kept = history.scene, dict[str, Index]()
     reader = Reader(history.servers, schedule)
     fetch = reader.fetch_from(FRONT)
     for number, query in enumerate(queries):
         reader.pass_on(query.before)
         name, first = query.name(scene), reader.at
-        asked = kept.setdefault(name, Asked(name, fetch))
-        found = query.found(asked if query.is_kept else Asked(name, fetch), scene, reader)
+        asked = kept.setdefault(name, Index(name, fetch))
+        found = query.found(asked if query.is_kept else Index(name, fetch), scene, reader)
         may_be = query.expected(scene, history.between(first, reader.at, query.part()))
         if found in may_be or found == SWITCHED and first < reader.at:
             continue

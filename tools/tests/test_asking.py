@@ -2,14 +2,16 @@
 of tags elsewhere, and of a pipe that is closed."""
 
 import io
+import json
 import os
 import subprocess
 import tempfile
 from contextlib import redirect_stderr, redirect_stdout
 
-from codenav.cli import ask
-from codenav.client import upload
-from codenav.dumps.prepare import prepare
+from codenav.cli.ask import ASK
+from codenav.cli.prepare import PREPARE
+from codenav.cli.upload import UPLOAD
+from codenav.client.fetch import fetch_from
 from codenav.texts import places
 from tests.servers import TOP, OnServer, command
 
@@ -18,7 +20,7 @@ RAW = os.path.join(TOP, "demo", "crate.raw.lsif")
 TAGS = os.path.join(TOP, "demo", "crate.tags")
 ROOT = "file:///src/tr/crate"
 AT = ["18", "12"]
-NOT_MAPPED = "ask: app: no revision is kept with its index; its places aren't mapped\n"
+NOT_MAPPED = "codenav ask: app: no revision is kept with its index; its places aren't mapped\n"
 
 
 class Asking(OnServer):
@@ -27,14 +29,14 @@ class Asking(OnServer):
         self.folder = os.path.realpath(self.enterContext(tempfile.TemporaryDirectory()))
         dump = os.path.join(self.folder, "dump")
         with redirect_stdout(io.StringIO()), redirect_stderr(io.StringIO()):
-            self.assertEqual(prepare.main([RAW, dump]), 0)
-            self.assertEqual(upload.main("lsif", [self.url, "app", dump]), 0)
-            self.assertEqual(upload.main("tags", [self.url, "app", TAGS]), 0)
+            self.assertEqual(PREPARE.main([RAW, dump]), 0)
+            self.assertEqual(UPLOAD.main([self.url, "app", dump]), 0)
+            self.assertEqual(UPLOAD.main([self.url, "app", TAGS]), 0)
 
     def asked(self, *words: str) -> tuple[int, str, str]:
         """The status, what was printed, and what was said as an error."""
         with redirect_stdout(io.StringIO()) as said, redirect_stderr(io.StringIO()) as warned:
-            status = ask.main(list(words))
+            status = ASK.main(list(words))
         return status, said.getvalue(), warned.getvalue()
 
     def definition(self, file: str, *words: str) -> tuple[int, str, str]:
@@ -49,7 +51,7 @@ class Asking(OnServer):
             (
                 2,
                 "",
-                f"ask: D02 no such document: {uri}: the project has no such document, or its dump was made in another folder, "
+                f"codenav ask: D02 no such document: {uri}: the project has no such document, or its dump was made in another folder, "
                 "which --map URI=FOLDER says\n",
             ),
         )
@@ -58,7 +60,7 @@ class Asking(OnServer):
             (
                 2,
                 "",
-                f"ask: D02 no such document: file:///elsewhere/src/lib.rs, which --map makes of {file}: the project has no such "
+                f"codenav ask: D02 no such document: file:///elsewhere/src/lib.rs, which --map makes of {file}: the project has no such "
                 "document\n",
             ),
         )
@@ -69,12 +71,12 @@ class Asking(OnServer):
             (
                 "implementation",
                 "1",
-                "ask: app was uploaded in profile 1, which has no implementations: --profile 2 has them\n",
+                "codenav ask: app was uploaded in profile 1, which has no implementations: --profile 2 has them\n",
             ),
             (
                 "declaration",
                 "1",
-                "ask: app was uploaded in profile 1, which has no declarations: --profile 2 has them\n",
+                "codenav ask: app was uploaded in profile 1, which has no declarations: --profile 2 has them\n",
             ),
             ("definition", "1", ""),
             ("declaration", "2", ""),
@@ -83,7 +85,7 @@ class Asking(OnServer):
             with self.subTest(what, profile=profile):
                 words = ["--profile", profile, self.url, "app", dump]
                 with redirect_stdout(io.StringIO()), redirect_stderr(io.StringIO()):
-                    self.assertEqual(upload.main("lsif", words), 0)
+                    self.assertEqual(UPLOAD.main(words), 0)
                 words = ["--map", f"{ROOT}={CRATE}", self.url, "app", what, file, "1", "1"]
                 self.assertEqual(self.asked(*words), (1, "", NOT_MAPPED + said))
 
@@ -120,9 +122,38 @@ class Asking(OnServer):
         self.assertEqual((status, said), (1, ""))
         self.assertEqual(
             warned,
-            "ask: 1 of 1 tags aren't shown, for their files aren't here: --tags PROJECT=FOLDER says where a project's tags "
+            "codenav ask: 1 of 1 tags aren't shown, for their files aren't here: --tags PROJECT=FOLDER says where a project's tags "
             "file was made\n",
         )
+
+    def test_json(self) -> None:
+        """Of texts that are as they were indexed it's the server's reply, with paths."""
+        file, uri = os.path.join(CRATE, "src", "lib.rs"), f"{ROOT}/src/lib.rs"
+        words = ["--map", f"{ROOT}={CRATE}", "--tags", f"app={CRATE}", self.url, "app"]
+        fetch, at = fetch_from(self.url, 10), {"uri": uri, "line": 17, "character": 11}
+        for what, member, status in (
+            ("definition", "places", 0),
+            ("references", "places", 0),
+            ("implementation", "places", 1),
+            ("hover", "contents", 0),
+        ):
+            with self.subTest(what):
+                code, said, _ = self.asked(*words, what, "--json", file, *AT)
+                reply = json.loads(said)
+                paths = [one.pop("path") for one in reply["places"]] if member == "places" else []
+                found = fetch(f"/projects/app/{what}", at, member)
+                self.assertEqual((code, reply), (status, {member: found}))
+                self.assertEqual(said.count("\n"), 1)
+                if member == "places":
+                    wanted = [places.path_of(one["uri"], [(ROOT, CRATE)]) for one in found]
+                    self.assertEqual(paths, wanted)
+        code, said, _ = self.asked("--json", *words, "names", "is_warm")
+        [tag] = json.loads(said)["tags"]
+        start, end = ({"line": 16, "character": character} for character in (7, 14))
+        today = {"path": file, "uri": places.uri_of(file, []), "start": start, "end": end}
+        [found] = fetch("/names", {"name": "is_warm", "project": "app"}, "tags")
+        self.assertEqual((code, tag), (0, {**found, **today}))
+        self.assertEqual(self.asked("--json", *words, "names", "none")[:2], (1, '{"tags":[]}\n'))
 
     def test_a_pipe_that_is_closed(self) -> None:
         words = [

@@ -9,9 +9,9 @@ from contextlib import redirect_stderr, redirect_stdout
 from typing import Callable, NamedTuple
 from unittest import mock
 
-from codenav.cli import ask
-from codenav.client import upload
-from codenav.dumps.prepare import prepare
+from codenav.cli.ask import ASK
+from codenav.cli.prepare import PREPARE
+from codenav.cli.upload import UPLOAD
 from tests.repository import InRepository, git_in
 from tests.servers import TOP, OnServer
 
@@ -41,8 +41,8 @@ class BadTexts(OnServer, InRepository):
         self.enterContext(mock.patch.dict(os.environ, {"GIT_CONFIG_GLOBAL": os.devnull}))
         dump = os.path.join(self.home, "crate.lsif")
         with redirect_stdout(io.StringIO()), redirect_stderr(io.StringIO()):
-            prepare.main([os.path.join(TOP, "demo", "crate.raw.lsif"), dump])
-            self.assertEqual(upload.main("lsif", [self.url, "app", dump]), 0)
+            PREPARE.main([os.path.join(TOP, "demo", "crate.raw.lsif"), dump])
+            self.assertEqual(UPLOAD.main([self.url, "app", dump]), 0)
 
     def fresh(self) -> str:
         """Makes the checkout anew; answers its commit."""
@@ -154,7 +154,7 @@ class BadTexts(OnServer, InRepository):
         where = ["--map", f"file:///src/tr/crate={top}", "--revision", revision]
         place = [os.path.join(top, LIB), str(line), "12"]
         with redirect_stdout(io.StringIO()) as said, redirect_stderr(io.StringIO()) as warned:
-            status = ask.main([*where, self.url, "app", "references", *place])
+            status = ASK.main([*where, self.url, "app", "references", *place])
         places = [os.path.relpath(one, top) for one in said.getvalue().splitlines()]
         lines = warned.getvalue().replace(top, "TOP").replace(os.path.relpath(top), "TOP")
         return status, places, lines.replace(revision, "REV").splitlines()
@@ -165,7 +165,7 @@ class BadTexts(OnServer, InRepository):
                 revision = bad.make(self)
                 status, places, said = self.references(revision, bad.line)
                 self.assertEqual(places, bad.places)
-                self.assertEqual(said, [f"ask: {line}" for line in bad.said])
+                self.assertEqual(said, [f"codenav ask: {line}" for line in bad.said])
                 self.assertEqual(status, 0)
 
 

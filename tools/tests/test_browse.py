@@ -13,16 +13,15 @@ from typing import Any, Optional
 from unittest import mock
 from urllib.parse import urlencode
 
-from codenav.asking import questions
 from codenav.asking.tags import AWAY, GUESSED, SAID
-from codenav.browse import answers
-from codenav.browse import command as browse
-from codenav.browse import folder, pages
+from codenav.browse import answers, folder, pages
 from codenav.browse.answers import Browser
 from codenav.browse.finder import found as found_files
 from codenav.browse.folder import Folder, Refused
 from codenav.browse.markdown import ELEMENTS, tree_of
 from codenav.browse.server import Pages
+from codenav.cli.browse import BROWSE
+from codenav.client import fetch
 from codenav.client.http import Answer
 from codenav.faults import BadCall
 from codenav.settings.found import Settings
@@ -91,7 +90,7 @@ class Served:
         the server was asked by; of a record of the revision it has none."""
         answer = Answer("http://127.0.0.1:1", status, json.dumps(reply).encode())
         asked: list[str] = []
-        with mock.patch.object(questions, "request", replying(answer, asked)):
+        with mock.patch.object(fetch, "request", replying(answer, asked)):
             code, body, _ = self.got(path)
         return code, json.loads(body), asked[0] if asked else None
 
@@ -526,7 +525,7 @@ class Browse(Served, unittest.TestCase):
             ),
             (
                 ["http://127.0.0.1:1", "app", self.top, "--port", "99999"],
-                "bind(): port must be 0-65535.",
+                "99999: bind(): port must be 0-65535.",
             ),
             (
                 ["http://127.0.0.1:1", "app", self.top, "--map", "x"],
@@ -538,7 +537,9 @@ class Browse(Served, unittest.TestCase):
             ),
         ):
             with redirect_stderr(io.StringIO()) as warned:
-                self.assertEqual((browse.main(words), warned.getvalue()), (2, f"browse: {said}\n"))
+                self.assertEqual(
+                    (BROWSE.main(words), warned.getvalue()), (2, f"codenav browse: {said}\n")
+                )
 
 
 class Trees(Served, unittest.TestCase):

@@ -11,14 +11,14 @@ from typing import Optional
 from codenav.asking.by_name import name_at
 from codenav.asking.workspace import Workspace
 from codenav.browse.answers import Browser
-from codenav.browse.command import browser_of, words_parser
 from codenav.browse.folder import Folder
-from codenav.cli import ask
-from codenav.client import upload
+from codenav.cli.ask import ASK
+from codenav.cli.browse import BROWSE, browser_of
+from codenav.cli.upload import UPLOAD
 from codenav.faults import NoReply
 from codenav.settings.found import FILE, Settings
 from codenav.texts.decoded import text_of
-from codenav.texts.places import uri_of
+from codenav.texts.places import Place, uri_of
 from tests.servers import TOP, OnServer
 from tests.test_lsp import Editor
 
@@ -70,17 +70,17 @@ class OverTags(OnServer):
             os.makedirs(os.path.dirname(path), exist_ok=True)
             with open(path, "w", encoding="utf-8") as file:
                 file.write(text)
-        self.put("tags", "app", os.path.join(self.folder, "tags"))
+        self.put("app", os.path.join(self.folder, "tags"))
 
-    def put(self, kind: str, *words: str) -> None:
+    def put(self, *words: str) -> None:
         """Uploads a dump or tags."""
         with redirect_stdout(io.StringIO()):
-            self.assertEqual(upload.main(kind, [self.url, *words]), 0)
+            self.assertEqual(UPLOAD.main([self.url, *words]), 0)
 
     def asked(self, project: str, what: str, *words: str) -> tuple[int, list[str], str]:
         """The status of `ask`, and what it prints on both outputs, from the folder on."""
         with redirect_stdout(io.StringIO()) as said, redirect_stderr(io.StringIO()) as warned:
-            status = ask.main(
+            status = ASK.main(
                 ["--tags", f"{project}={self.folder}", self.url, project, what, *words]
             )
         places = said.getvalue().replace(os.path.relpath(self.folder) + "/", "")
@@ -88,14 +88,14 @@ class OverTags(OnServer):
 
     def test_ask(self) -> None:
         main = os.path.join(self.folder, "src/main.c")
-        by_name = f"ask: {ALONE}: the definition is by name\n"
+        by_name = f"codenav ask: {ALONE}: the definition is by name\n"
         for what, column, found in (
             ("definition", "27", (0, ["lib/area.c:1:5"], by_name)),
             ("definition", "36", (0, ["src/help.c:1:12", "lib/area.c:2:12"], by_name)),
             ("definition", "7", (0, ["src/main.c:2:5"], by_name)),
             ("definition", "48", (1, [], by_name)),
-            ("references", "27", (1, [], f"ask: {ALONE}: no references\n")),
-            ("hover", "27", (1, [], f"ask: {ALONE}: no hover\n")),
+            ("references", "27", (1, [], f"codenav ask: {ALONE}: no references\n")),
+            ("hover", "27", (1, [], f"codenav ask: {ALONE}: no hover\n")),
         ):
             with self.subTest(what, column=column):
                 self.assertEqual(self.asked("app", what, main, "2", column), found)
@@ -103,7 +103,7 @@ class OverTags(OnServer):
     def test_files_that_changed(self) -> None:
         """What isn't as it was is said, and what is gone isn't shown."""
         main, area = (os.path.join(self.folder, name) for name in ("src/main.c", "lib/area.c"))
-        note = f"ask: {ALONE}: the definition is by name\n"
+        note = f"codenav ask: {ALONE}: the definition is by name\n"
         guessed, gone = "1 of 1 places are guessed: ", "1 of 1 tags aren't shown, for "
         for text, places, said in (
             ("\n" + FILES["lib/area.c"], ["lib/area.c:2:5"], ""),
@@ -119,7 +119,8 @@ class OverTags(OnServer):
                     found = [one.removesuffix(":") for one in found if one != "area"]
                     self.assertEqual((status, found), (0 if places else 1, places))
                     told = told if is_name else told.removesuffix(note)
-                    self.assertEqual(told[:5] + told[5 : 5 + len(said)], said and f"ask: {said}")
+                    wanted = said and f"codenav ask: {said}"
+                    self.assertEqual(told[: len(wanted) or None], wanted)
 
     def written(self, path: str, text: Optional[str]) -> None:
         """Writes a file, or removes it."""
@@ -130,23 +131,25 @@ class OverTags(OnServer):
                 file.write(text)
 
     def test_a_project_with_a_dump_is_asked_by_name_alone_where_that_is_wished(self) -> None:
-        self.put("lsif", "app", DUMP)
+        self.put("app", DUMP)
         main = os.path.join(self.folder, "src/main.c")
         status, found, said = self.asked("app", "definition", main, "2", "27")
         self.assertEqual((status, found), (2, []))
         self.assertIn("D02 no such document", said)
-        wished = "ask: the definition is by name, among the tags of app\n"
+        wished = "codenav ask: the definition is by name, among the tags of app\n"
         self.assertEqual(
             self.asked("app", "definition", "--by-name", main, "2", "27"),
             (0, ["lib/area.c:1:5"], wished),
         )
 
     def test_projects_that_are_not_known(self) -> None:
-        self.put("lsif", "dump", DUMP)
+        self.put("dump", DUMP)
         main = os.path.join(self.folder, "src/main.c")
         for project in "app", "dump":
             self.assertEqual(self.asked(project, "names", "none"), (1, [], ""))
-        unknown = f"ask: ap isn't known to {self.url}: it has no dump, and no tag whose name "
+        unknown = (
+            f"codenav ask: ap isn't known to {self.url}: it has no dump, and no tag whose name "
+        )
         unknown += "begins with a letter\n"
         self.assertEqual(self.asked("ap", "names", "none"), (2, [], unknown))
         status, _, said = self.asked("ap", "definition", main, "2", "27")
@@ -192,17 +195,17 @@ class OverTags(OnServer):
         path = os.path.join(self.folder, "src/main.c")
         for what in "definition", "references":
             with self.assertRaisesRegex(NoReply, "^late: D01 project has no dump"):
-                workspace.ask(what, path, 1, 26)
-        self.put("tags", "late", os.path.join(self.folder, "tags"))
-        [found] = workspace.ask("definition", path, 1, 26).found
+                workspace.ask(what, Place(path, 1, 26))
+        self.put("late", os.path.join(self.folder, "tags"))
+        [found] = workspace.ask("definition", Place(path, 1, 26)).found
         self.assertEqual(found["path"], os.path.join(self.folder, "lib/area.c"))
-        note = workspace.ask("references", path, 1, 26).note
+        note = workspace.ask("references", Place(path, 1, 26)).note
         self.assertEqual(note, "late has tags alone: no references")
 
     def test_where_it_is_wished(self) -> None:
         """An editor and the page are answered by name of a project that has a dump, whoever says
         which project it is."""
-        self.put("lsif", "app", DUMP)
+        self.put("app", DUMP)
         with open(os.path.join(self.folder, FILE), "w", encoding="utf-8") as file:
             file.write(f'server = "{self.url}"\nproject = "app"\n')
         for words in ["--by-name", self.url, "app"], ["--by-name"]:
@@ -214,7 +217,7 @@ class OverTags(OnServer):
                 found, _ = editor.call("textDocument/definition", document)
                 self.assertEqual([one["uri"] for one in found], [self.uri("lib/area.c")])
                 self.assertEqual(editor.end("shutdown", "exit")[0], 0)
-        call = words_parser().parse_intermixed_args(["--by-name", self.folder])
+        call = BROWSE.read(["--by-name", self.folder])
         at_area = {"path": "src/main.c", "line": "1", "character": "26"}
         found = browser_of(call).asked({"what": "definition", **at_area})
         self.assertEqual([row["href"] for row in found["places"]], ["/files/lib/area.c#L1C5"])

@@ -12,10 +12,10 @@ from unittest import mock
 
 import tomllib
 
-from codenav.browse import command as browse
-from codenav.cli import ask
-from codenav.client import http as client
-from codenav.publishing import publish
+from codenav.cli.ask import ASK
+from codenav.cli.browse import BROWSE, browser_of
+from codenav.cli.publish import PUBLISH
+from codenav.client import login
 from codenav.settings.found import FILE
 from tests.repository import InRepository
 from tests.servers import TOP, OnServer
@@ -37,7 +37,7 @@ class Written(OnServer, InRepository):
     def published(self, *words: str) -> tuple[int, str, str]:
         """What `publish` says of a call."""
         call = ["--no-tags", "--program", self.program, "--dump", RAW["crate"]]
-        return quietly(publish.main, *call, *words)
+        return quietly(PUBLISH.main, *call, *words)
 
     def test_a_checkout_is_published_and_asked(self) -> None:
         """By one call with words, and then by none; lines on top of a file change no answer."""
@@ -61,10 +61,10 @@ class Written(OnServer, InRepository):
             ["--revision", "HEAD", "definition", *place],
         ):
             maps = ["--map", f"{root}={self.top}"] if "app" in words else []
-            status, said, warned = quietly(ask.main, *maps, *words)
+            status, said, warned = quietly(ASK.main, *maps, *words)
             self.assertEqual((status, os.path.abspath(said)), (0, f"{scale}:4:8\n"), warned)
         at = os.path.join(self.top, "src")
-        settings = browse.browser_of(browse.words_parser().parse_args([at])).settings
+        settings = browser_of(BROWSE.read([at])).settings
         self.assertEqual(settings[:4], (self.url, "app", self.top, [(root, self.top)]))
 
     def test_other_settings(self) -> None:
@@ -72,11 +72,11 @@ class Written(OnServer, InRepository):
         other settings."""
         more = 'server = "http://h:1"\nproject = "app"\n'
         self.write(FILE, more)
-        fault = f"publish: {self.file} has other settings, which --overwrite replaces\n"
+        fault = f"codenav publish: {self.file} has other settings, which --overwrite replaces\n"
         call = ["--write-settings", self.url, "app", self.top]
         status, _, said = self.published(*call)
         self.assertEqual((status, said.endswith(fault)), (2, True), said)
-        self.assertEqual(quietly(ask.main, self.url, "app", "names", "x")[0], 2)
+        self.assertEqual(quietly(ASK.main, self.url, "app", "names", "x")[0], 2)
         self.assertEqual(self.published("--overwrite", *call)[0], 0)
         with open(self.file, encoding="utf-8") as file:
             text = 'revision = "old"\n' + file.read()
@@ -93,24 +93,36 @@ class Written(OnServer, InRepository):
         place = [self.lib, "18", "12"]
         above = f"above {os.path.dirname(self.lib)}"
         cases: list[tuple[Any, list[str], str]] = [
-            (ask.main, ["definition", *place], f"ask: no project, and no {FILE} {above} says one"),
             (
-                ask.main,
+                ASK.main,
+                ["definition", *place],
+                f"codenav ask: no project, and no {FILE} {above} says one",
+            ),
+            (
+                ASK.main,
                 ["app", "definition", *place],
-                f"ask: no server: neither CODENAV_URL nor a {FILE} {above} has one",
+                f"codenav ask: no server: neither CODENAV_URL nor a {FILE} {above} has one",
             ),
             (
-                browse.main,
+                BROWSE.main,
                 [self.top],
-                f"browse: no project, and no {FILE} above {self.top} says one",
+                f"codenav browse: no project, and no {FILE} above {self.top} says one",
             ),
-            (browse.main, [], "browse: it takes [[URL] PROJECT] FOLDER"),
-            (publish.main, [self.top + "/"], f"publish: no project, and {self.file} says none"),
-            (publish.main, ["app", self.top], f"publish: no server, and {self.file} says none"),
+            (BROWSE.main, [], "codenav browse: it takes [[URL] PROJECT] FOLDER"),
             (
-                publish.main,
+                PUBLISH.main,
+                [self.top + "/"],
+                f"codenav publish: no project, and {self.file} says none",
+            ),
+            (
+                PUBLISH.main,
+                ["app", self.top],
+                f"codenav publish: no server, and {self.file} says none",
+            ),
+            (
+                PUBLISH.main,
                 [self.url, "app", self.top, "more"],
-                "publish: it takes [[URL] PROJECT] [FOLDER]",
+                "codenav publish: it takes [[URL] PROJECT] [FOLDER]",
             ),
         ]
         for tool, words, said in cases:
@@ -154,10 +166,10 @@ class Logins(InRepository):
         for words, named, is_sent in cases:
             variables = {"CODENAV_TOKEN": "secret", "CODENAV_URL": named, "NETRC": os.devnull}
             with mock.patch.dict(os.environ, variables), mock.patch.object(
-                client, "BY_CALL", set()
-            ), mock.patch.object(client, "BY_FILES", set()):
+                login, "BY_CALL", set()
+            ), mock.patch.object(login, "BY_FILES", set()):
                 seen.clear()
-                status, _, said = quietly(ask.main, *words, "hover", path, "1", "1")
+                status, _, said = quietly(ASK.main, *words, "hover", path, "1", "1")
             self.assertEqual((status, seen), (2, ["Bearer secret" if is_sent else None]), words)
             self.assertEqual(hint in said, not is_sent and not words, said)
 

@@ -7,10 +7,12 @@ from typing import Any, Optional
 from unittest import mock
 
 from codenav.faults import BadCall
-from codenav.texts import git as revisions
-from codenav.texts.git import Revision, top_of
-from codenav.texts.indexed import Asked, Indexed, NotThere, sources_of
-from codenav.texts.places import uri_of
+from codenav.texts import revisions
+from codenav.texts.git import top_of
+from codenav.texts.places import Place, uri_of
+from codenav.texts.revisions import Revision
+from codenav.texts.sources import sources_of
+from codenav.texts.today import IndexPlace, NotThere, Today
 from tests.repository import InRepository
 
 TEXT = "fn one() {}\nfn two() {\n    one();\n}\n"
@@ -202,12 +204,12 @@ class Mapped(InRepository):
         self.said: list[str] = []
         self.texts: dict[str, str] = {}
 
-    def indexed(self, *words: str, folder: Optional[str] = None) -> Indexed:
+    def indexed(self, *words: str, folder: Optional[str] = None) -> Today:
         """What maps the places of the project `app`."""
         sources = sources_of(list(words), folder, "app", self.top)
         for source in sources.values():
             self.addCleanup(source.end)
-        return Indexed(sources, [], self.said.append, self.today)
+        return Today(sources, [], self.said.append, self.today)
 
     def today(self, path: str) -> str:
         """The text of a file, as an editor has it."""
@@ -228,24 +230,26 @@ class Mapped(InRepository):
             "end": {"line": line, "character": end},
         }
 
-    def asked(self, indexed: Indexed, path: str, line: int, character: int) -> Asked:
+    def asked(self, indexed: Today, path: str, line: int, character: int) -> IndexPlace:
         """What is asked at a place of a file, of which it's said why it isn't mapped."""
-        found = indexed.asked("app", path, line, character)
+        found = indexed.to_index("app", Place(path, line, character))
         indexed.tell(found.fault)
         return found
 
     def test_questions_and_places(self) -> None:
         indexed = self.indexed("HEAD")
         uri = uri_of(self.path, [])
-        self.assertEqual(indexed.asked("app", self.path, 2, 4), Asked(uri, 2, 4, ""))
+        self.assertEqual(indexed.to_index("app", Place(self.path, 2, 4)), IndexPlace(uri, 2, 4, ""))
         self.texts[self.path] = NEW
-        self.assertEqual(indexed.asked("app", self.path, 4, 4), Asked(uri, 2, 4, "HEAD"))
+        self.assertEqual(
+            indexed.to_index("app", Place(self.path, 4, 4)), IndexPlace(uri, 2, 4, "HEAD")
+        )
         with self.assertRaisesRegex(
             NotThere,
             r"src/a.rs:1: this word isn't in the text that was indexed \(HEAD\)$",
         ):
-            indexed.asked("app", self.path, 0, 4)
-        [place] = indexed.places([self.place(2, 4, 7)])
+            indexed.to_index("app", Place(self.path, 0, 4))
+        [place] = indexed.from_index([self.place(2, 4, 7)])
         self.assertEqual((place["path"], place["start"]), (self.path, {"line": 4, "character": 4}))
         self.assertEqual(place["end"], {"line": 4, "character": 7})
         self.assertEqual(self.said, [])
@@ -253,46 +257,49 @@ class Mapped(InRepository):
     def test_what_is_left_out(self) -> None:
         indexed = self.indexed("HEAD")
         self.texts[self.path] = TEXT.replace("    one();\n", "")
-        found = indexed.places([self.place(0, 3, 6), self.place(2, 4, 7)])
+        found = indexed.from_index([self.place(0, 3, 6), self.place(2, 4, 7)])
         self.assertEqual([one["start"]["line"] for one in found], [0])
         self.assertEqual(self.said, ["1 of 2 places changed since HEAD"])
         del self.texts[self.path]
         os.remove(self.path)
-        self.assertEqual(indexed.places([self.place(0, 3, 6)]), [])
+        self.assertEqual(indexed.from_index([self.place(0, 3, 6)]), [])
         gone = [f"{self.path}: No such file or directory", "1 of 1 places changed since HEAD"]
         self.assertEqual(self.said[1:], gone)
 
     def test_a_place_of_two_projects(self) -> None:
         indexed = self.indexed("HEAD")
         self.texts[self.path] = NEW
-        found = indexed.places([self.place(2, 4, 7, "other"), self.place(2, 4, 7)])
+        found = indexed.from_index([self.place(2, 4, 7, "other"), self.place(2, 4, 7)])
         self.assertEqual([one["start"]["line"] for one in found], [4])
 
     def test_renamed_files(self) -> None:
         new = os.path.join(self.top, "src/b.rs")
         os.rename(self.path, new)
         indexed = self.indexed(self.revision)
-        asked = indexed.asked("app", new, 2, 4)
+        asked = indexed.to_index("app", Place(new, 2, 4))
         self.assertEqual((asked.uri, asked.line), (uri_of(self.path, []), 2))
-        self.assertEqual([one["path"] for one in indexed.places([self.place(0, 3, 6)])], [new])
+        self.assertEqual([one["path"] for one in indexed.from_index([self.place(0, 3, 6)])], [new])
 
     def test_places_that_are_not_mapped(self) -> None:
         indexed = self.indexed("lib=HEAD")
         self.texts[self.path] = NEW
-        self.assertEqual(indexed.asked("app", self.path, 2, 4).line, 2)
-        lines = [one["start"]["line"] for one in indexed.places([self.place(2, 4, 7, "lib")])]
+        self.assertEqual(indexed.to_index("app", Place(self.path, 2, 4)).line, 2)
+        lines = [one["start"]["line"] for one in indexed.from_index([self.place(2, 4, 7, "lib")])]
         self.assertEqual((lines, self.said), ([4], []))
         indexed = self.indexed("none")
         for _ in range(2):
             self.assertEqual(self.asked(indexed, self.path, 2, 4).line, 2)
-            self.assertEqual(indexed.places([self.place(2, 4, 7)])[0]["start"]["line"], 2)
+            self.assertEqual(indexed.from_index([self.place(2, 4, 7)])[0]["start"]["line"], 2)
         line = f"{self.top}: git knows no revision none; its places aren't mapped"
         self.assertEqual(self.said, [line])
         outside = self.write("plain/a.rs", TEXT, self.home)
         self.assertEqual(self.asked(self.indexed("HEAD"), outside, 2, 4).line, 2)
         line = f"{os.path.dirname(outside)}: not in a checkout of git; its places aren't mapped"
         self.assertEqual(self.said[1:], [line])
-        self.assertEqual(self.indexed("HEAD").asked("app", "urn:x", 2, 4), Asked("urn:x", 2, 4, ""))
+        self.assertEqual(
+            self.indexed("HEAD").to_index("app", Place("urn:x", 2, 4)),
+            IndexPlace("urn:x", 2, 4, ""),
+        )
 
     def test_a_commit_that_is_fetched(self) -> None:
         """It's asked for again some time after it wasn't there."""
@@ -302,7 +309,7 @@ class Mapped(InRepository):
         self.git("clone", "-q", "--depth", "1", f"file://{self.top}", shallow)
         path = os.path.join(shallow, "src", "a.rs")
         indexed = self.indexed(self.revision)
-        with mock.patch("codenav.texts.indexed.FRESH", 0.0):
+        with mock.patch("codenav.texts.revisions.FRESH", 0.0):
             self.assertEqual(self.asked(indexed, path, 4, 4)[1:4], (4, 4, ""))
             self.git("fetch", "-q", "--depth", "1", "origin", self.revision, top=shallow)
             self.assertEqual(self.asked(indexed, path, 4, 4)[1:4], (2, 4, self.revision))
@@ -313,7 +320,7 @@ class Mapped(InRepository):
         self.write("src/a.rs", TEXT, old)
         self.texts[self.path] = NEW
         indexed = self.indexed(folder=old)
-        self.assertEqual(indexed.asked("app", self.path, 4, 4).line, 2)
+        self.assertEqual(indexed.to_index("app", Place(self.path, 4, 4)).line, 2)
         other = self.write("src/new.rs", TEXT)
         self.assertEqual(self.asked(indexed, other, 2, 4).line, 2)
         missing = os.path.join(old, "src/new.rs")

@@ -12,16 +12,19 @@ from random import Random
 from typing import Any, Callable
 from unittest import mock
 
-from codenav.asking.questions import Fetcher, Questions, fetch_from
-from codenav.cli import ask
-from codenav.client import upload
-from codenav.dumps.prepare import prepare
+from codenav.asking.project import Project
+from codenav.cli.ask import ASK
+from codenav.cli.prepare import PREPARE
+from codenav.cli.publish import PUBLISH
+from codenav.cli.upload import UPLOAD
+from codenav.client.fetch import Fetcher, fetch_from
 from codenav.faults import NoReply
-from codenav.publishing import publish
 from codenav.records import Prepared, new_record
-from codenav.sets.publish.publish import Publish, Store, remove_set
+from codenav.sets.publish.publish import Publish, remove_set
+from codenav.sets.publish.store import Store
 from codenav.settings.found import Settings
-from codenav.texts.indexed import Indexed
+from codenav.texts.places import Place
+from codenav.texts.today import Today
 from tests.repository import InRepository, git_in
 from tests.servers import TOP, OnServer
 from tests.test_browse import Served
@@ -68,14 +71,14 @@ class Crates(Served, OnServer, InRepository):
     def published(self, name: str, *words: str) -> None:
         """Publishes a crate's checkout."""
         call = ["--no-tags", "--program", self.program, "--dump", RAW[name], *words, self.url]
-        status, _, said = quietly(publish.main, *call, PROJECTS[name], f"{self.home}/{name}")
+        status, _, said = quietly(PUBLISH.main, *call, PROJECTS[name], f"{self.home}/{name}")
         self.assertEqual(status, 0, said)
 
     def uploaded(self, name: str) -> None:
         """Uploads a crate's dump without a record."""
         dump = os.path.join(self.home, f"{name}.lsif")
-        self.assertEqual(quietly(prepare.main, "--strip", RAW[name], dump)[0], 0)
-        self.assertEqual(quietly(upload_dump, self.url, PROJECTS[name], dump)[0], 0)
+        self.assertEqual(quietly(PREPARE.main, "--strip", RAW[name], dump)[0], 0)
+        self.assertEqual(quietly(UPLOAD.main, self.url, PROJECTS[name], dump)[0], 0)
 
     def change(self, name: str) -> None:
         """Adds two lines on top of a file."""
@@ -93,7 +96,7 @@ class Crates(Served, OnServer, InRepository):
     def answer(self, what: str, place: tuple[str, int, int]) -> tuple[int, list[str], str]:
         """The status, the places and the lines of `ask`, with the home's folder as HOME."""
         words = ["--map", f"{ROOT}={self.home}", self.url, "temperature", what, *map(str, place)]
-        status, said, warned = quietly(ask.main, *words)
+        status, said, warned = quietly(ASK.main, *words)
         lines = [os.path.abspath(line).replace(self.home, "HOME") for line in said.splitlines()]
         return status, lines, warned.replace(self.home, "HOME")
 
@@ -106,7 +109,7 @@ class Kept(Crates):
         question finds the place in today's text, and what is said."""
         crate = os.path.join(self.home, "crate")
         commit = self.commits["crate"]
-        changed = f"ask: HOME/crate/src/lib.rs changed since: the answer is of {commit}\n"
+        changed = f"codenav ask: HOME/crate/src/lib.rs changed since: the answer is of {commit}\n"
 
         def nothing() -> None:
             pass
@@ -159,7 +162,7 @@ class Kept(Crates):
                 then()
                 status, places, warned = self.answer("definition", self.place(*CALL))
                 right = ["HOME/crate/src/scale.rs:4:8"], changed
-                self.assertEqual((places, warned), ([], f"ask: {said}") if said else right)
+                self.assertEqual((places, warned), ([], f"codenav ask: {said}") if said else right)
                 shutil.rmtree(crate)
                 shutil.copytree(f"{self.home}/kept/crate", crate, symlinks=True)
 
@@ -168,7 +171,9 @@ class Kept(Crates):
         self.published("crate")
         self.change("crate/src/lib.rs")
         said = "temperature: its index is of files that weren't committed; its places aren't mapped"
-        self.assertEqual(self.answer("definition", self.place(*CALL))[1:], ([], f"ask: {said}\n"))
+        self.assertEqual(
+            self.answer("definition", self.place(*CALL))[1:], ([], f"codenav ask: {said}\n")
+        )
 
     def test_places_of_other_projects(self) -> None:
         """Each is mapped by the revision of its own index, where its file is in a checkout that has
@@ -176,7 +181,9 @@ class Kept(Crates):
         self.published("crate")
         definition = "crate/src/scale.rs", "pub fn fahrenheit", len("pub fn ")
         here = ["HOME/crate/src/lib.rs:18:12", "HOME/crate/src/scale.rs:4:8"]
-        there = "ask: kettle: no revision is kept with its index; its places aren't mapped\n"
+        there = (
+            "codenav ask: kettle: no revision is kept with its index; its places aren't mapped\n"
+        )
         for is_kept, said in ((False, there), (True, "")):
             self.published("user") if is_kept else self.uploaded("user")
             places = ["HOME/user/src/lib.rs:5:25", *here]
@@ -194,10 +201,10 @@ class Kept(Crates):
         are below is named."""
         self.published("crate")
         path = self.place(*CALL)
-        status, _, said = quietly(ask.main, self.url, "temperature", "definition", *map(str, path))
+        status, _, said = quietly(ASK.main, self.url, "temperature", "definition", *map(str, path))
         root = f"{ROOT}/crate"
         line = (
-            f"ask: D02 no such document: file://{path[0]}: the project's documents are below {root}, "
+            f"codenav ask: D02 no such document: file://{path[0]}: the project's documents are below {root}, "
             f"and --map {root}=FOLDER says where these are here\n"
         )
         self.assertEqual((status, said), (2, line))
@@ -235,6 +242,21 @@ class Kept(Crates):
                     [row["href"] for row in rows], [f"/files/src/scale.rs#L{wanted['line'] + 1}C8"]
                 )
 
+    def test_json(self) -> None:
+        """A place in a file that was renamed has today's address."""
+        self.published("crate")
+        crate = os.path.join(self.home, "crate")
+        self.change("crate/src/scale.rs")
+        self.git("mv", "src/scale.rs", "src/new.rs", top=crate)
+        path, *at = self.place(*CALL)
+        maps = ["--map", f"{ROOT}={self.home}"]
+        words = [*maps, self.url, "temperature", "definition", "--json", path, *map(str, at)]
+        status, said, _ = quietly(ASK.main, *words)
+        [place] = json.loads(said)["places"]
+        found = place["path"], place["uri"], place["start"]["line"]
+        new = f"{crate}/src/new.rs", f"{ROOT}/crate/src/new.rs", 5
+        self.assertEqual((status, found), (0, new))
+
     def published_with_lines(self, number: int) -> None:
         """Publishes the crate as its indexer would write it with so many lines more on top of each
         file."""
@@ -247,7 +269,7 @@ class Kept(Crates):
                     element["end"]["line"] += number
                 out.write(json.dumps(element).encode() + b"\n")
         call = ["--no-tags", "--program", self.program, "--dump", dump, self.url, "temperature"]
-        self.assertEqual(quietly(publish.main, *call, self.top)[0], 0)
+        self.assertEqual(quietly(PUBLISH.main, *call, self.top)[0], 0)
 
 
 CLASSES = "".join(
@@ -269,12 +291,12 @@ class Names(Crates):
         with open(tags, "w", encoding="utf-8") as file:
             for line in 2, 7, 12:
                 file.write(f'run\tm.py\t/^    def run(self):$/;"\tm\tline:{line}\n')
-        self.assertEqual(quietly(upload_tags, self.url, "temperature", tags)[0], 0)
+        self.assertEqual(quietly(UPLOAD.main, self.url, "temperature", tags)[0], 0)
 
     def names(self) -> tuple[list[str], str]:
         """The places that `ask names` prints, and what it says."""
         words = ["--tags", f"temperature={self.top}", self.url, "temperature", "names", "run"]
-        _, said, warned = quietly(ask.main, *words)
+        _, said, warned = quietly(ASK.main, *words)
         return [line.split("/")[-1].removesuffix(": run") for line in said.splitlines()], warned
 
     def test_ask(self) -> None:
@@ -290,9 +312,9 @@ class Names(Crates):
             (CLASSES, None, ["m.py:2:9", "m.py:7:9", "m.py:12:9"], ""),
             (ADDED + CLASSES, None, mapped, ""),
             (ADDED + CLASSES, renamed, [place.replace("m", "n") for place in mapped], ""),
-            (ADDED + CLASSES[:47], None, ["m.py:7:9"], f"ask: 2 of 3 {of}"),
-            ("", None, [], f"ask: 3 of 3 {of}"),
-            ("run()\n", forgotten, ["m.py:1:1"] * 3, "ask: 3 of 3 places are guessed: "),
+            (ADDED + CLASSES[:47], None, ["m.py:7:9"], f"codenav ask: 2 of 3 {of}"),
+            ("", None, [], f"codenav ask: 3 of 3 {of}"),
+            ("run()\n", forgotten, ["m.py:1:1"] * 3, "codenav ask: 3 of 3 places are guessed: "),
         ):
             with self.subTest(text, then=then):
                 self.write("m.py", text)
@@ -382,7 +404,7 @@ class Switched(OnServer, InRepository):
         self.made += 1
         folder, commit = os.path.join(self.home, f"set{self.made}"), self.commits[number]
         if is_set:
-            split_into(folder, self.bodies[number], *(["--revision", commit] if is_kept else []))
+            split_into(folder, self.bodies[number], revision=commit if is_kept else "")
             Publish(Store(self.url), folder, in_place_of_project=True).run()
             return
         dump = f"{folder}.lsif"
@@ -390,7 +412,7 @@ class Switched(OnServer, InRepository):
             out.write(self.bodies[number])
         if is_kept:
             self.assertTrue(Prepared(dump).add(new_record(commit, ROOT)))
-        self.assertEqual(quietly(upload_dump, self.url, NAME, dump)[0], 0)
+        self.assertEqual(quietly(UPLOAD.main, self.url, NAME, dump)[0], 0)
         remove_set(Store(self.url), NAME)
 
     def putting(self, number: int, is_set: bool, is_kept: bool) -> Callable[[], None]:
@@ -445,8 +467,8 @@ class Asker:
         self.said: list[str] = []
         self.fetch = fetch_from(test.url, 30)
         maps = [(f"{ROOT}/crate", test.top)]
-        self.questions = Questions(NAME, self.fetched, Indexed({}, maps, self.said.append))
-        test.addCleanup(self.questions.indexed.end)
+        self.project = Project(NAME, self.fetched, Today({}, maps, self.said.append))
+        test.addCleanup(self.project.today.end)
 
     def fetched(self, path: str, parameters: dict[str, Any], member: str) -> Any:
         """Makes a request, after what comes before it."""
@@ -463,7 +485,7 @@ class Asker:
 
     def ask(self) -> list[tuple[str, int, int]]:
         """The references to the function, by their files' names, lines and characters."""
-        found = self.questions.ask("references", self.test.path, *self.place()).found
+        found = self.project.ask("references", Place(self.test.path, *self.place())).found
         return sorted(
             (os.path.basename(one["path"]), one["start"]["line"], one["start"]["character"])
             for one in found
@@ -475,17 +497,7 @@ class Asker:
 
     def is_of_none(self) -> bool:
         """Whether it's known, and was said, that the index is of no revision."""
-        return bool(self.questions.indexed.reason(NAME))
-
-
-def upload_tags(words: list[str]) -> int:
-    """Uploads tags."""
-    return upload.main("tags", words)
-
-
-def upload_dump(words: list[str]) -> int:
-    """Uploads a dump."""
-    return upload.main("lsif", words)
+        return bool(self.project.today.reason(NAME))
 
 
 if __name__ == "__main__":

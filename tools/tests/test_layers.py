@@ -27,81 +27,13 @@ LAYERS = {
     "service": "ground client",
     "cli": "",
 }
-IMPORTS = """
-browse.answers -> cli.ask
-browse.command -> cli.options
-client.upload -> cli.ends
-client.upload -> cli.options
-client.upload -> dumps.lsif.reading
-client.upload -> dumps.tables.rows
-client.upload -> texts.checked_out
-dumps.check.why -> cli.ask
-dumps.check.why -> sets.manifest
-lsp.bridge -> cli.options
-publishing.publish -> cli.ends
-publishing.publish -> cli.main
-publishing.publish -> cli.options
-sets.publish.publish -> cli.ends
-sets.publish.rebalance -> asking.known
-sets.publish.rebalance -> asking.questions
-sets.split.split -> cli.ends
-sets.split.split -> index.indexers
-sets.split.tags -> index.tags_file
-sets.surface.surface -> cli.ends
-settings.checkout -> cli.options
-"""
+IMPORTS = ""
 LONG = """
-client.http
-dumps.check.explain
-dumps.check.why
-dumps.lsif.reading
 dumps.prepare.rewriting
 dumps.prepare.survey
 dumps.tables.graph
-lsp.bridge
-publishing.publish
-sets.manifest
-sets.publish.publish
-sets.split.flat
-sets.split.part
-sets.split.split
-texts.git
-texts.indexed
 """
-USES = """
-asking.by_name: argparse
-browse.command: argparse
-browse.command: print
-client.upload: argparse
-client.upload: print
-dumps.check.explain: argparse
-dumps.check.explain: print
-dumps.check.why: argparse
-dumps.check.why: print
-dumps.prepare.prepare: argparse
-dumps.prepare.prepare: print
-dumps.scip.conversion: argparse
-dumps.scip.conversion: print
-dumps.scip.to_lsif: argparse
-dumps.scip.to_lsif: print
-dumps.tables.graph: print
-dumps.tables.of_scip: argparse
-lsp.bridge: argparse
-lsp.bridge: print
-progress: print
-publishing.publish: argparse
-publishing.publish: print
-publishing.publish: sys.argv
-sets.publish.publish: argparse
-sets.publish.publish: print
-sets.publish.rebalance: argparse
-sets.publish.rebalance: print
-sets.split.split: argparse
-sets.split.split: print
-sets.surface.surface: argparse
-sets.surface.surface: print
-texts.indexed: argparse
-"""
+USES = ""
 
 
 def modules() -> dict[str, Path]:

@@ -16,7 +16,7 @@ from urllib.parse import parse_qsl, urlsplit
 
 from codenav.asking.tags import AWAY, GUESSED, SAID
 from codenav.lsp import bridge as lsp
-from codenav.lsp.jsonrpc import Inbox, read_body, write_message
+from codenav.lsp.jsonrpc import Inbox, logger, read_body, write_message
 from codenav.lsp.open_documents import OpenDocuments, document_name
 from codenav.records import ADDRESS
 from codenav.texts.places import uri_of
@@ -643,7 +643,7 @@ class Lsp(unittest.TestCase):
             with mock.patch.dict(lsp.QUERIES, {method: planted}), mock.patch.dict(
                 lsp.NOTIFICATIONS, {method: planted} if not own else {}
             ):
-                log = lsp.logger(None)
+                log = logger(None, print)
                 lsp.serve(lsp.Bridge(None, out, log), Inbox(written, log))
             out.seek(0)
             found = [json.loads(body) for body in iter(lambda: read_body(out), None)]
@@ -656,7 +656,7 @@ class Lsp(unittest.TestCase):
     def test_a_log_that_is_full(self) -> None:
         editor = Editor("--log", "/dev/full", self.url, "app")
         editor.call("initialize", {"rootUri": uri_of(self.folder, []), "capabilities": {}})
-        said = b"lsp: /dev/full: No space left on device\n"
+        said = b"codenav lsp: /dev/full: No space left on device\n"
         self.assertEqual(editor.end("shutdown", "exit"), (0, said))
 
     def test_the_log(self) -> None:
@@ -697,7 +697,8 @@ class Lsp(unittest.TestCase):
                 [*LSP, *words], stdin=subprocess.DEVNULL, capture_output=True, check=False
             )
             self.assertEqual(
-                (done.returncode, done.stdout, done.stderr.decode()), (2, b"", f"lsp: {message}\n")
+                (done.returncode, done.stdout, done.stderr.decode()),
+                (2, b"", f"codenav lsp: {message}\n"),
             )
 
 

@@ -15,11 +15,12 @@ from typing import Any, Iterator, NoReturn
 from unittest import mock
 
 from codenav.asking import tags
-from codenav.asking.questions import Questions
+from codenav.asking.project import Project
 from codenav.faults import NoReply
 from codenav.texts import tagged
-from codenav.texts.indexed import Folder, Indexed, Source
 from codenav.texts.places import Place, units
+from codenav.texts.sources import Folder, Source
+from codenav.texts.today import Today
 from tests.randomly import check_cases
 from tests.servers import TOP
 
@@ -53,8 +54,8 @@ def found_in(
 ) -> tuple[list[tuple[tags.Tag, Place]], str]:
     """The places of tags of a project whose tags file was made in a folder, and what is said."""
     names = tags.Names()
-    questions = Questions("app", no_dump, Indexed(sources, [], print))
-    return list(names.places(questions, asked, lambda _: folder)), names.said()
+    project = Project("app", no_dump, Today(sources, [], print))
+    return list(names.places(project, asked, lambda _: folder)), names.said()
 
 
 class OverFiles(unittest.TestCase):

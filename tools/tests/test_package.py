@@ -182,8 +182,8 @@ class Installed(OnServer):
                 2,
                 "codenav list: http://127.0.0.1:1: Connection refused",
             ),
-            (["prepare-lsif", raw, "dump"], 0, "prepare-lsif: version 0.5.0 -> 0.6.0"),
-            (["upload-lsif", self.url, "app", "dump"], 0, '{"accepted":"lsif"'),
+            (["prepare", raw, "dump"], 0, "codenav prepare: version 0.5.0 -> 0.6.0"),
+            (["upload", self.url, "app", "dump"], 0, '{"accepted":"lsif"'),
             (["list", self.url], 0, "app: dump\n"),
             (
                 ["ask", "--map", f"file:///src/tr/crate={crate}", self.url, "app", "hover", *place],

@@ -5,12 +5,14 @@ import os
 import tempfile
 import unittest
 from contextlib import redirect_stderr, redirect_stdout
+from typing import Any
 
 from codenav.asking.all_servers import names_of_all
-from codenav.asking.questions import fetch_from
-from codenav.cli import ask
+from codenav.cli.ask import ASK
+from codenav.client.fetch import fetch_from
 from codenav.program import Program, free_port
-from codenav.sets.publish.publish import Publish, Store
+from codenav.sets.publish.publish import Publish
+from codenav.sets.publish.store import Store
 from codenav.sets.ring import home_of
 from codenav.settings.found import FILE
 from tests.servers import program
@@ -86,8 +88,8 @@ class TwoServers(unittest.TestCase):
         with open(tags, "wb") as out:
             out.write(line("of_scale", "scale.rs", 4) + line("of_lib", "lib.rs", 2))
         folder = os.path.join(self.folder, code)
-        words = ["--name", code, "--tags", tags, "--map", "file:///src/tr/crate/src=/tags"]
-        split_into(folder, revision(0), *words, "--tags-folder", "/tags")
+        options: dict[str, Any] = {"tags": tags, "maps": ("file:///src/tr/crate/src=/tags",)}
+        split_into(folder, revision(0), code, tags_folder="/tags", **options)
         Publish(Store(self.servers[0]), folder).run()
         self.put(1, other, line("of_other", "x.c", 1))
         found = [(name, project) for name, project, _, _ in self.found(prefix="of_")]
@@ -115,7 +117,7 @@ class TwoServers(unittest.TestCase):
             ('project = "p"', [], (0, f"{place}:1:1: run0\n", "")),
             ("servers = [1]", [], (2, "", "the values of servers are texts")),
             ("", ["--servers", self.servers[0]], (2, "", "several servers are two at least")),
-            ("", ["--servers", f"{self.servers[0]},{away}"], (2, "", f"ask: {away}: ")),
+            ("", ["--servers", f"{self.servers[0]},{away}"], (2, "", f"codenav ask: {away}: ")),
         ]
         for settings, more, wanted in cases:
             with open(os.path.join(self.folder, FILE), "w", encoding="utf-8") as out:
@@ -126,7 +128,7 @@ class TwoServers(unittest.TestCase):
                 with redirect_stdout(io.StringIO()) as said, redirect_stderr(
                     io.StringIO()
                 ) as warned:
-                    status = ask.main([*words, *more])
+                    status = ASK.main([*words, *more])
             finally:
                 os.chdir(before)
             shown = "".join(
@@ -148,8 +150,8 @@ class ByFront(OnServers):
             name = self.name_at(server, "code")
             folder = os.path.join(self.folder, "w", name)
             os.makedirs(os.path.dirname(folder), exist_ok=True)
-            words = ["--name", name, "--tags", tags, "--map", "file:///src/tr/crate/src=/tags"]
-            split_into(folder, crate("crate"), *words, "--tags-folder", "/tags", most=200)
+            options: dict[str, Any] = {"tags": tags, "maps": ("file:///src/tr/crate/src=/tags",)}
+            split_into(folder, crate("crate"), name, tags_folder="/tags", **options)
             self.make_surface(folder)
             self.spread(folder).run()
             found = asked_at(self.front.url, name).names({"prefix": "of_"}, False)

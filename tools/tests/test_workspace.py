@@ -12,10 +12,11 @@ from contextlib import redirect_stderr, redirect_stdout
 from typing import Any
 
 from codenav.asking.workspace import Workspace
-from codenav.client import upload
-from codenav.dumps.prepare import prepare
+from codenav.cli.prepare import PREPARE
+from codenav.cli.upload import UPLOAD
 from codenav.faults import BadCall
 from codenav.settings.found import FILE, Settings, settings_in
+from codenav.texts import places
 from codenav.texts.decoded import text_of
 from codenav.texts.places import units, uri_of
 from tests.repository import InRepository, checkouts
@@ -160,7 +161,7 @@ class SettingsFile(unittest.TestCase):
                 elif os.path.exists(os.path.join(self.folder, folder, FILE)):
                     os.remove(os.path.join(self.folder, folder, FILE))
                 with self.assertRaises(BadCall) as caught:
-                    workspace.ask("definition", path, 0, 0)
+                    workspace.ask("definition", places.Place(path, 0, 0))
                 self.assertTrue(str(caught.exception).startswith(fault), caught.exception)
         deep = os.path.join(self.folder, "deep", FILE)
         self.assertEqual([line.split(": ")[0] for line in said], [deep])
@@ -178,8 +179,8 @@ class OnCheckouts(OnServer, InRepository):
             dump = os.path.join(self.home, f"{name}.lsif")
             raw = os.path.join(TOP, "demo", f"{name}.raw.lsif")
             with redirect_stdout(io.StringIO()), redirect_stderr(io.StringIO()):
-                self.assertEqual(prepare.main([raw, dump]), 0)
-                self.assertEqual(upload.main("lsif", [self.url, project, dump]), 0)
+                self.assertEqual(PREPARE.main([raw, dump]), 0)
+                self.assertEqual(UPLOAD.main([self.url, project, dump]), 0)
         for folder, _, names in os.walk(self.home):
             for name in names:
                 if name.endswith(".rs"):

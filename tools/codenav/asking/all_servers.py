@@ -7,11 +7,12 @@ it was put elsewhere by hand, it's shown as the others have it, equal tags once.
 
 from typing import Any, Callable, Optional, Sequence
 
-from codenav.asking.index import Asked, Found, order_of_tag
-from codenav.asking.known import Fetch
+from codenav.asking.index import Found, Index, order_of_tag
+from codenav.client.fetch import Fetch
 from codenav.client.projects import listed
 from codenav.faults import NoReply
-from codenav.sets.manifest import PARTS, set_name
+from codenav.names import set_name
+from codenav.sets.manifest import PARTS
 from codenav.sets.ring import Ring, servers_of
 from codenav.settings.found import servers_above
 
@@ -60,7 +61,7 @@ def names_of_all(
     asked = {url: Server(url, fetch_from(url)) for url in servers}
     holders: dict[str, dict[str, list[Found]]] = {}
     for url, server in asked.items():
-        for tag in Asked(name, server.ask).names(parameters, True):
+        for tag in Index(name, server.ask).names(parameters, True):
             holders.setdefault(tag["project"], {}).setdefault(url, []).append(tag)
     kept, ring = [], Ring(servers)
     for project, own in holders.items():
@@ -68,7 +69,7 @@ def names_of_all(
         home = ring.home(stored)
         if home not in own and asked[home].has(stored):
             # it may have come there since its home was asked
-            own[home] = Asked(project, asked[home].ask).names(parameters, False)
+            own[home] = Index(project, asked[home].ask).names(parameters, False)
         if home in own:
             kept += own[home]
         else:

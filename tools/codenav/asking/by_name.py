@@ -5,19 +5,22 @@ Names are compared whole and as they are written, so all that is called so is fo
 in the same file, in the same folder, and then the rest in the tags' order.
 """
 
-import argparse
+from __future__ import annotations
+
 import os
 import time
-from typing import Any, Optional
+from typing import TYPE_CHECKING, Any, Optional
 
-from codenav.asking.index import Asked
-from codenav.asking.questions import Questions, Reply
+from codenav.asking.index import Index
 from codenav.asking.tags import Names, Tag
-from codenav.faults import NoReply
+from codenav.faults import NO_DUMP, NoReply
+from codenav.texts.decoded import lines_in
 from codenav.texts.places import Place, units, uri_of
 from codenav.texts.tagged import is_part
 
-NO_DUMP = "D01 "
+if TYPE_CHECKING:
+    from codenav.asking.project import Project
+
 LETTERS = "zqjxyvkwuhgnolbmdfirteapcs"
 BEGINNINGS = f"{LETTERS}_{LETTERS.upper()}"
 """With what names begin, what is rarer first: little is answered then."""
@@ -25,26 +28,17 @@ SECONDS = 60.0
 """For so long it stands that a project has no tags, but where a definition is found by them."""
 
 
-def add_by_name(parser: argparse.ArgumentParser) -> None:
-    """Adds the option by which definitions are looked for among tags."""
-    parser.add_argument(
-        "--by-name",
-        action="store_true",
-        help="find definitions by name, among the tags of the project, also where it has a dump",
-    )
-
-
-def has_dump(index: Asked) -> bool:
+def has_dump(index: Index) -> bool:
     """Whether the server has a dump of a project or a set, or doesn't say that it has none."""
     try:
         if index.sets.head(index.name) is None:
             index.sets.fetch(f"/projects/{index.name}/profile", {}, "profile")
     except NoReply as fault:
-        return not str(fault).startswith(NO_DUMP)
+        return fault.code() != NO_DUMP
     return True
 
 
-def has_tags(index: Asked) -> bool:
+def has_tags(index: Index) -> bool:
     """Whether a project has tags whose names begin with a letter or `_`: the server can be asked
     for no others but by listing all projects."""
     try:
@@ -67,64 +61,40 @@ def name_at(line: str, character: int) -> str:
 
 
 class ByName:
-    """Answers by the tags of a project that is asked, which were made in a folder."""
+    """The tags of a project, which were made in a folder, by the names at places."""
 
-    def __init__(self, questions: Questions) -> None:
-        self.questions = questions
+    def __init__(self, project: Project, folder: Optional[str]) -> None:
+        self.project, self.folder = project, folder
         self.is_tagged, self.until = False, 0.0
 
-    def instead(
-        self, fault: NoReply, folder: Optional[str], what: str, path: str, line: int, character: int
-    ) -> Reply:
-        """The answer in the place of a fault, where the project has tags alone; else raises the
-        fault."""
-        name, found = self.questions.name, []
-        if not str(fault).startswith(NO_DUMP) or not os.path.isabs(path):
-            raise fault
-        if what == "definition":
-            found = self.definitions(folder, path, line, character)
-            self.is_tagged = self.is_tagged or bool(found)
-        if not self.has_tags():
-            raise fault
-        if what != "definition":
-            note = f"{name} has tags alone: no {what}"
-            return Reply(None if what == "hover" else [], "", "", note)
-        return Reply(found, "", "", f"{name} has tags alone: the definition is by name")
-
-    def has_tags(self) -> bool:
+    def are_there(self) -> bool:
         """Whether the project has tags, as it was found some time ago."""
         if not self.is_tagged and time.monotonic() >= self.until:
-            self.is_tagged = has_tags(self.questions.index)
+            self.is_tagged = has_tags(self.project.index)
             self.until = time.monotonic() + SECONDS
         return self.is_tagged
 
-    def reply(self, folder: Optional[str], path: str, line: int, character: int) -> Reply:
-        """The definitions by name, as they were asked for. Raises NoReply."""
-        found = self.definitions(folder, path, line, character)
-        return Reply(
-            found, "", "", f"the definition is by name, among the tags of {self.questions.name}"
-        )
-
-    def definitions(
-        self, folder: Optional[str], path: str, line: int, character: int
-    ) -> list[dict[str, Any]]:
-        """The places of the tags whose name stands at a place of a file, nearest first."""
-        lines = self.questions.indexed.today(path).split("\n")
-        name = name_at(lines[line], character) if line < len(lines) else ""
+    def definitions(self, at: Place) -> list[dict[str, Any]]:
+        """The places of the tags whose name stands at a place of a file, nearest first. Raises
+        NoReply."""
+        today = self.project.today
+        lines = lines_in(today.read(at.name))
+        name = name_at(lines[at.line], at.character) if at.line < len(lines) else ""
         if not name:
             return []
-        own, beside = os.path.realpath(path), os.path.dirname(os.path.realpath(path))
+        own = os.path.realpath(at.name)
 
         def far(found: dict[str, Any]) -> tuple[bool, bool]:
             real = os.path.realpath(found["path"])
-            return real != own, os.path.dirname(real) != beside
+            return real != own, os.path.dirname(real) != os.path.dirname(own)
 
-        tags = self.questions.index.names({"name": name}, False)
+        tags = self.project.index.names({"name": name}, False)
         names = Names()
-        places = names.places(self.questions, tags, lambda _: folder)
+        places = names.places(self.project, tags, lambda _: self.folder)
         found = sorted((found_at(*one) for one in places), key=far)
         if said := names.said():
-            self.questions.indexed.say(said)
+            today.say(said)
+        self.is_tagged = self.is_tagged or bool(found)
         return found
 
 

@@ -14,12 +14,16 @@ from the old revision or from the new one.
 from typing import Any, Callable
 
 from codenav.addresses import serialized
-from codenav.asking.known import Fetch, Sets
-from codenav.faults import NoReply
-from codenav.sets.manifest import BRANCH, DOCUMENT, Head, shown_name
+from codenav.client.fetch import Fetch
+from codenav.faults import NO_DOCUMENT, NO_DUMP, NoReply
+from codenav.names import BRANCH, shown_name
+from codenav.sets.known import Sets
+from codenav.sets.manifest import DOCUMENT, Head
 
 Found = dict[str, Any]
 Shown = tuple[Any, set[str]]
+MISSING = (NO_DUMP, NO_DOCUMENT)
+"""The codes of faults of a project that has no dump, or of a dump that has no such document."""
 ALIKE = 3
 TRIES = 5
 
@@ -35,7 +39,7 @@ def order_of_tag(tag: Found) -> tuple[Any, ...]:
     return (tag["name"].encode(), tag["project"], tag["line"])
 
 
-class Asked:
+class Index:
     """A project or a set that is asked, by the name that its users write.
 
     The name is taken for a project's up to when the server has no dump of it: so a project costs no
@@ -60,9 +64,9 @@ class Asked:
             try:
                 found = self.sets.fetch(f"/projects/{project}/{what}", parameters, member)
             except NoReply as fault:
-                if not is_missing(fault):
+                if fault.code() not in MISSING:
                     raise
-                is_none = head is None and is_without_dump(fault)
+                is_none = head is None and fault.code() == NO_DUMP
                 return fault, self.looked_for() if is_none else self.own()
             self.is_none = False
             return self.shown(found) if member == "places" else (found, self.own())
@@ -105,9 +109,11 @@ class Asked:
         head, name = self.sets.heads.get(self.name), shown_name(self.name)
         if head is None:
             return fault
-        if is_without_dump(fault):
+        if fault.code() == NO_DUMP:
             return NoReply(f"a part of the set {name} is gone; publish the set again")
-        return NoReply(f"D02 no such document in the set {name}{self.alike(head, serialized(uri))}")
+        return NoReply(
+            f"{NO_DOCUMENT} no such document in the set {name}{self.alike(head, serialized(uri))}"
+        )
 
     def documents(self, head: Head) -> list[str]:
         """The addresses of all documents of a set."""
@@ -185,14 +191,3 @@ class Asked:
             if tag["project"] in parts
         ]
         return sorted(found, key=order_of_tag)
-
-
-def is_missing(fault: NoReply) -> bool:
-    """Whether a query was refused since there is no dump of its project, or since the dump has no
-    such document."""
-    return is_without_dump(fault) or str(fault).startswith("D02 ")
-
-
-def is_without_dump(fault: NoReply) -> bool:
-    """Whether a query was refused since there is no dump of its project."""
-    return str(fault).startswith("D01 ")

@@ -4,18 +4,22 @@ Where it's known which texts were indexed, a tag's line is looked for in these, 
 mapped like any other. Else, and where the tag is of another text, it's looked for in today's.
 """
 
+from __future__ import annotations
+
 import os
 from collections import Counter
-from typing import Any, Callable, Iterator, NamedTuple, Optional
+from typing import TYPE_CHECKING, Any, Callable, Iterator, NamedTuple, Optional
 
-from codenav.asking.questions import Questions
 from codenav.asking.versions import NONE_KEPT, UNCOMMITTED
 from codenav.faults import BadCall
 from codenav.names import project_of
 from codenav.texts.decoded import lines_in
-from codenav.texts.indexed import FileMap, work_tree
-from codenav.texts.places import Place, units
+from codenav.texts.places import Place, units, work_tree
 from codenav.texts.tagged import FILE, Tagged, Words, near_of
+from codenav.texts.today import FileMap
+
+if TYPE_CHECKING:
+    from codenav.asking.project import Project
 
 Tag = dict[str, Any]
 Tags = dict[int, Tag]
@@ -70,7 +74,7 @@ class Names:
         )
 
     def places(
-        self, questions: Questions, tags: list[Tag], folder_of: FolderOf
+        self, asked: Project, tags: list[Tag], folder_of: FolderOf
     ) -> Iterator[tuple[Tag, Place]]:
         """Tags with the places of their names, without those of a project that has no folder; files
         are named from the folder of the project.
@@ -91,7 +95,7 @@ class Names:
                 continue
             if number not in found:
                 own = {one: tags[one] for one in of_files[file]}
-                found.update(self.in_file(questions, *file, own))
+                found.update(self.in_file(asked, *file, own))
             place, what = found.pop(number)
             self.count += 1
             self.counts[what] += 1
@@ -99,17 +103,17 @@ class Names:
                 yield tag, place
 
     def in_file(
-        self, questions: Questions, project: str, path: str, tags: Tags
+        self, asked: Project, project: str, path: str, tags: Tags
     ) -> Iterator[tuple[int, Found]]:
         """What becomes of the tags of one file, which has its path of when they were made."""
-        to = self.map_from(questions, project, path)
+        to = self.map_from(asked, project, path)
         if to.is_mapped() and to.text_map is None:
             self.labels.add(to.label)
             yield from ((number, Found(None, CHANGED)) for number in tags)
             return
-        lines = readable_lines(questions, to.path or path)
+        lines = readable_lines(asked, to.path or path)
         if lines and to.fault:
-            questions.indexed.tell(to.fault)
+            asked.today.tell(to.fault)
         mapped = dict(mapped_of(to, tags))
         if any(place is None for place, _ in mapped.values()):
             self.labels.add(to.label)
@@ -117,36 +121,36 @@ class Names:
         others = {number: tag for number, tag in tags.items() if number not in mapped}
         yield from found_today(to.path or path, lines, others)
 
-    def map_from(self, questions: Questions, project: str, path: str) -> FileMap:
+    def map_from(self, asked: Project, project: str, path: str) -> FileMap:
         """Where a file of tags is today, and the map to it where the indexed text is known."""
-        self.learn(questions, project, path)
-        if not is_known(questions, project, path) and not work_tree(path):
+        self.learn(asked, project, path)
+        if not is_known(asked, project, path) and not work_tree(path):
             return FileMap(path, None)
-        is_source = questions.indexed.source(project, path) is not None
-        return questions.indexed.map_from(project, path) if is_source else FileMap(path, None)
+        is_source = asked.today.source(project, path) is not None
+        return asked.today.map_from(project, path) if is_source else FileMap(path, None)
 
-    def learn(self, questions: Questions, project: str, path: str) -> None:
+    def learn(self, asked: Project, project: str, path: str) -> None:
         """Learns of which revision the index is that has a project's tags, by a request at most:
         once, and for a file in a checkout."""
-        if project in self.learnt or is_known(questions, project, path) or not work_tree(path):
+        if project in self.learnt or is_known(asked, project, path) or not work_tree(path):
             return
         self.learnt.add(project)
-        version = questions.versions.told(project)
-        questions.indexed.learn(project, version.revision, version.why)
+        version = asked.versions.told(project)
+        asked.today.learn(project, version.revision, version.why)
         if version.why not in (NONE_KEPT, UNCOMMITTED):
-            questions.indexed.tell(questions.indexed.reason(project))
+            asked.today.tell(asked.today.reason(project))
 
-    def old_path(self, questions: Questions, project: str, path: str) -> str:
+    def old_path(self, asked: Project, project: str, path: str) -> str:
         """The path that a file of today had when its tags were made. Raises BadCall where there is
         no such file."""
-        self.learn(questions, project, path)
-        return questions.indexed.map_of(project, path)[0]
+        self.learn(asked, project, path)
+        return asked.today.map_of(project, path)[0]
 
 
-def is_known(questions: Questions, project: str, path: str) -> bool:
+def is_known(asked: Project, project: str, path: str) -> bool:
     """Whether it was said which texts of a project were indexed, so that its index needn't."""
-    indexed = questions.indexed
-    return project in indexed.sources or indexed.others(project, path) is not None
+    today = asked.today
+    return project in today.sources or today.others(project, path) is not None
 
 
 def file_of(tag: Tag, folder_of: FolderOf) -> tuple[str, str]:
@@ -156,10 +160,10 @@ def file_of(tag: Tag, folder_of: FolderOf) -> tuple[str, str]:
     return tag["project"], "" if "\0" in path else path
 
 
-def readable_lines(questions: Questions, path: str) -> list[str]:
+def readable_lines(asked: Project, path: str) -> list[str]:
     """The lines of a file as it is today, none where it can't be read."""
     try:
-        return lines_in(questions.indexed.today(path))
+        return lines_in(asked.today.read(path))
     except BadCall:
         return []
 

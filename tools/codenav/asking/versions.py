@@ -3,11 +3,11 @@ and a project by the record that `publish` keeps with its dump."""
 
 from typing import NamedTuple, Optional
 
-from codenav.asking.index import Asked
-from codenav.asking.known import Away
-from codenav.faults import BadCall, NoReply
+from codenav.asking.index import Index
+from codenav.faults import NO_DOCUMENT, NO_DUMP, BadCall, NoReply
+from codenav.names import BRANCH
 from codenav.records import AT, record_in
-from codenav.sets.manifest import BRANCH
+from codenav.sets.known import Away
 
 NONE_KEPT = "no revision is kept with its index"
 UNCOMMITTED = "its index is of files that weren't committed"
@@ -30,7 +30,7 @@ class Versions:
     one.
     """
 
-    def __init__(self, name: str, index: Asked) -> None:
+    def __init__(self, name: str, index: Index) -> None:
         self.name, self.index = name, index
         self.known: dict[str, Version] = {}
 
@@ -68,7 +68,7 @@ class Versions:
         except Away:
             return Version(why=f"the server of {name} doesn't answer")
         except BadCall as fault:
-            return Version() if str(fault).startswith("D01 ") else Version(why=str(fault))
+            return Version() if fault.code() == NO_DUMP else Version(why=str(fault))
 
     def own(self) -> Version:
         """What the index says that is asked: by the manifest, as far as it was read, where it's a
@@ -78,7 +78,7 @@ class Versions:
             try:
                 return self.recorded(own)
             except NoReply as fault:
-                if not str(fault).startswith("D01 "):
+                if fault.code() != NO_DUMP:
                     raise
                 if not sets.is_changed(own):
                     return self.recorded(own)  # a set may have become a project meanwhile
@@ -96,7 +96,7 @@ class Versions:
         try:
             record = record_in(fetch(f"/projects/{name}/hover", AT, "contents"))
         except NoReply as fault:
-            if not str(fault).startswith("D02 "):
+            if fault.code() != NO_DOCUMENT:
                 raise
             record = None
         if record is None:

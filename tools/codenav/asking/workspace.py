@@ -9,26 +9,25 @@ import os
 import stat
 from typing import Any, Callable, Iterator, Optional, Union
 
-from codenav.asking.by_name import ByName
-from codenav.asking.questions import Fetch, Questions, Reply, fetch_from
+from codenav.asking.project import Project, Reply
 from codenav.asking.tags import Names, Tag
-from codenav.faults import BadCall, NoReply
+from codenav.client.fetch import fetch_from
+from codenav.faults import NO_DOCUMENT, NO_DUMP, BadCall, NoReply
 from codenav.settings.found import FILE, Settings, folders_above, settings_in
-from codenav.texts.indexed import Indexed, Source, sources_of
 from codenav.texts.places import Place
+from codenav.texts.sources import Source
+from codenav.texts.today import Today
 
 SECONDS = 30
 Mark = Optional[tuple[int, int, int]]
 """What changes with a file."""
-UNKNOWN = ("D01 ", "D02 ")
-"""How faults begin of a project that has no dump, or not the document."""
 
 
 class Workspace:
     """The files of an editor, of which each is asked of its own project.
 
     `given` is what the command line says, for the files below the editor's folder, `root`, and for
-    those that nothing else is known of. `say` is called with a line for the user, `today` reads a
+    those that nothing else is known of. `say` is called with a line for the user, `read` reads a
     file as the editor has it. With `is_by_name` definitions are looked for by name.
     """
 
@@ -37,16 +36,15 @@ class Workspace:
         root: str,
         given: Optional[Settings],
         say: Callable[[str], None],
-        today: Callable[[str], str],
+        read: Callable[[str], str],
         is_by_name: bool = False,
     ) -> None:
-        self.root, self.given, self.say, self.today = root, given, say, today
+        self.root, self.given, self.say, self.read = root, given, say, read
         self.is_by_name = is_by_name
-        self.read: dict[str, tuple[Mark, Union[Settings, BadCall, None]]] = {}
+        self.files: dict[str, tuple[Mark, Union[Settings, BadCall, None]]] = {}
         self.said: set[str] = set()
-        self.asking: dict[tuple[str, str], Questions] = {}
-        self.naming: dict[tuple[str, str], ByName] = {}
-        self.mapping: dict[str, Indexed] = {}
+        self.asking: dict[tuple[str, str], Project] = {}
+        self.mapping: dict[str, Today] = {}
         self.holders: dict[str, list[str]] = {}
 
     def settings(self, path: str) -> Optional[Settings]:
@@ -78,7 +76,7 @@ class Workspace:
         read again where the file changed, and what was asked by them is forgotten then."""
         path = os.path.join(folder, FILE)
         mark = mark_of(path)
-        known, found = self.read.get(folder, (None, None))
+        known, found = self.files.get(folder, (None, None))
         if mark != known:
             if isinstance(found, Settings):
                 self.forget(folder)
@@ -86,7 +84,7 @@ class Workspace:
                 found = settings_in(path) if mark else None
             except BadCall as fault:
                 found = fault
-            self.read[folder] = mark, found
+            self.files[folder] = mark, found
         return found
 
     def forget(self, folder: str) -> None:
@@ -95,31 +93,19 @@ class Workspace:
             self.mapping.pop(folder).end()
         for key in [key for key in self.asking if key[0] == folder]:
             del self.asking[key]
-        for key in [key for key in self.naming if key[0] == folder]:
-            del self.naming[key]
         self.holders.clear()
 
-    def questions(self, settings: Settings, project: str) -> Questions:
-        """What asks a project of the settings' server."""
-        key = settings.folder, project
+    def project(self, settings: Settings, name: str) -> Project:
+        """A project of the settings' server."""
+        key = settings.folder, name
         if key not in self.asking:
             if settings.folder not in self.mapping:
-                sources = sources_of(
-                    list(settings.revisions), settings.indexed, settings.project, settings.folder
+                self.mapping[settings.folder] = Today(
+                    settings.sources(), settings.maps, self.say, self.read, self.source
                 )
-                self.mapping[settings.folder] = Indexed(
-                    sources, settings.maps, self.say, self.today, self.source
-                )
-            fetch: Fetch = fetch_from(settings.server, SECONDS)
-            self.asking[key] = Questions(project, fetch, self.mapping[settings.folder])
+            fetch, today = fetch_from(settings.server, SECONDS), self.mapping[settings.folder]
+            self.asking[key] = Project(name, fetch, today, settings.tags_folder(name))
         return self.asking[key]
-
-    def by_name(self, settings: Settings, project: str) -> ByName:
-        """What answers by the tags of a project of the settings' server."""
-        key = settings.folder, project
-        if key not in self.naming:
-            self.naming[key] = ByName(self.questions(settings, project))
-        return self.naming[key]
 
     def source(self, project: str, path: str) -> Optional[Source]:
         """The texts that were indexed of a file of another project, where the file's own settings
@@ -127,7 +113,7 @@ class Workspace:
         settings = self.settings(path)
         if settings is None or settings.project != project:
             return None
-        return self.questions(settings, project).indexed.sources.get(project)
+        return self.project(settings, project).today.sources.get(project)
 
     def projects(self, settings: Settings, path: str) -> list[str]:
         """The projects that a file's questions go to, one after the other up to the first that has
@@ -141,43 +127,37 @@ class Workspace:
         is_own = settings is not self.given and is_below(path, settings.folder)
         return list(dict.fromkeys([*own, *named] if is_own else [*named, *own]))
 
-    def ask(self, what: str, path: str, line: int, character: int, **more: str) -> Reply:
+    def ask(self, what: str, at: Place, **more: str) -> Reply:
         """What is found at a place of a file, or of a document by its address. Raises NotThere, and
         BadCall where nothing answers."""
-        settings = self.settings(path) if os.path.isabs(path) else self.given
+        path, is_file = at.name, os.path.isabs(at.name)
+        settings = self.settings(path) if is_file else self.given
         if settings is None:
-            faults = self.found_above(path)[1] if os.path.isabs(path) else []
+            faults = self.found_above(path)[1] if is_file else []
             if faults:
                 raise faults[0]
             raise BadCall(
                 f"neither a {FILE} above {path} nor the command line says of which project it is"
             )
-        if self.is_by_name and what == "definition" and os.path.isabs(path):
-            folder = settings.tags_folder(settings.project)
-            return self.by_name(settings, settings.project).reply(folder, path, line, character)
-        projects = self.projects(settings, path)
-        for project in projects:
+        if self.is_by_name and what == "definition" and is_file:
+            return self.project(settings, settings.project).by_name(at)
+        *others, last = self.projects(settings, path)
+        for name in others:
             try:
-                reply = self.questions(settings, project).ask(what, path, line, character, **more)
+                return self.learnt(name, what, self.project(settings, name).ask(what, at, **more))
             except NoReply as fault:
-                if project != projects[-1] and str(fault).startswith(UNKNOWN):
-                    continue
-                try:
-                    folder = settings.tags_folder(project)
-                    by_name = self.by_name(settings, project)
-                    reply = by_name.instead(fault, folder, what, path, line, character)
-                except NoReply as own:
-                    raise NoReply(f"{project}: {own}") from None
-            if what != "hover":
-                self.learn(project, reply.found)
-            return reply
-        raise AssertionError("there is a project")
+                if fault.code() not in (NO_DUMP, NO_DOCUMENT):
+                    raise NoReply(f"{name}: {fault}") from None
+        try:
+            return self.learnt(last, what, self.project(settings, last).answer(what, at, **more))
+        except NoReply as fault:
+            raise NoReply(f"{last}: {fault}") from None
 
-    def learn(self, asked: str, places: list[dict[str, Any]]) -> None:
-        """Notes which projects have the files that an answer leads to: the one that was asked
+    def learnt(self, asked: str, what: str, reply: Reply) -> Reply:
+        """A reply, of whose places it's noted which projects have the files: the one that was asked
         before others."""
         found: dict[str, set[str]] = {}
-        for place in places:
+        for place in reply.found if what != "hover" else []:
             if place["path"]:
                 found.setdefault(place["path"], set()).add(place["project"])
         for path, projects in found.items():
@@ -186,6 +166,7 @@ class Workspace:
                 *sorted(projects, key=lambda one: (one != asked, one)),
             ]
             self.holders[path] = list(dict.fromkeys(known))
+        return reply
 
     def all_settings(self, paths: list[str]) -> list[Settings]:
         """The settings of the editor's folder and of files, each once."""
@@ -200,9 +181,9 @@ class Workspace:
         files, with their places. Raises NoReply."""
         for settings in self.all_settings(paths):
             for project in settings.projects():
-                questions = self.questions(settings, project)
-                tags = questions.index.names({"prefix": prefix}, False)
-                yield from names.places(questions, tags, settings.tags_folder)
+                asked = self.project(settings, project)
+                tags = asked.index.names({"prefix": prefix}, False)
+                yield from names.places(asked, tags, settings.tags_folder)
 
 
 def mark_of(path: str) -> Mark:

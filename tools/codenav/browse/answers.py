@@ -13,10 +13,9 @@ from codenav.browse.folder import Folder, Refused, href
 from codenav.browse.markdown import tree_of
 from codenav.browse.outline import Outlines
 from codenav.browse.view import View, permalink
-from codenav.cli.ask import is_whole_file
 from codenav.settings.found import Settings
-from codenav.texts.indexed import NotThere
 from codenav.texts.places import Place, units
+from codenav.texts.today import NotThere, is_whole_file
 
 Parameters = dict[str, str]
 QUERIES = ("definition", "references", "hover")
@@ -50,23 +49,23 @@ class Browser:
 
     def asked(self, parameters: Parameters) -> dict[str, Any]:
         """The answer at a place of a file."""
-        what, (line, character) = parameters.get("what", ""), place_in(parameters)
+        what, position = parameters.get("what", ""), position_in(parameters)
         if what not in QUERIES:
             raise Refused(400, "bad parameter")
         view = self.view(parameters)
-        path = view.path(parameters.get("path", ""))
+        at = Place(view.path(parameters.get("path", "")), *position)
         with view.lock:
-            view.text(path)
+            view.text(at.name)
             try:
-                reply, notes = view.ask(what, path, line, character)
+                reply, notes = view.ask(what, at)
                 if what == "hover":
                     nodes = [] if reply.found is None else tree_of(reply.found)
                     return {"nodes": nodes, "said": said(notes, reply.note, reply.of)}
-                answer = self.places(view, reply.found, path, what)
+                answer = self.places(view, reply.found, at.name, what)
                 if what == "references" and reply.note:
                     return {**answer, "said": said(notes, reply.note, reply.of)}
                 if what == "references":
-                    self.mark_definitions(view, answer, path, line, character)
+                    self.mark_definitions(view, answer, at)
             except NotThere as fault:
                 return {"places": [], "nodes": [], "said": about(fault), "is_new": True}
         answer["said"] = said(answer["said"], notes, reply.note, reply.of)
@@ -83,11 +82,9 @@ class Browser:
         files = len({row["file"] for row in rows})
         return {"places": rows, "said": counted(what, len(places), files)}
 
-    def mark_definitions(
-        self, view: View, answer: dict[str, Any], path: str, line: int, character: int
-    ) -> None:
+    def mark_definitions(self, view: View, answer: dict[str, Any], at: Place) -> None:
         """Marks the references that are definitions."""
-        definitions, _ = view.ask("definition", path, line, character)
+        definitions, _ = view.ask("definition", at)
         found = {where(one) for one in definitions.found}
         for row in answer["places"]:
             row["is_definition"] = tuple(row.pop("where")) in found
@@ -148,15 +145,14 @@ class Browser:
             files = {(tag["project"], tag["file"]): None for tag in tags}
             shown = {file for file in files if self.has(*file)}
             own = [tag for tag in tags if (tag["project"], tag["file"]) in shown]
-            questions = view.workspace.questions(self.settings, project)
-            for tag, place in names.places(questions, own, self.settings.tags_folder):
+            asked = view.workspace.project(self.settings, project)
+            for tag, place in names.places(asked, own, self.settings.tags_folder):
                 if self.folder.inside(place.name) is not None:
                     yield tag, place
 
     def tags_of(self, view: View, project: str, prefix: str) -> list[Tag]:
         """The tags of a project whose names begin with a text."""
-        questions = view.workspace.questions(self.settings, project)
-        return questions.index.names({"prefix": prefix}, False)
+        return view.workspace.project(self.settings, project).index.names({"prefix": prefix}, False)
 
     def has(self, project: str, file: str) -> bool:
         """Whether the file of a tag is in the folder that is shown, if it's there at all."""
@@ -190,15 +186,15 @@ class Browser:
             folder = self.settings.tags_folder(project)
             if folder is None:
                 continue
-            questions = view.workspace.questions(self.settings, project)
-            inside = os.path.relpath(names.old_path(questions, project, path), folder)
+            asked = view.workspace.project(self.settings, project)
+            inside = os.path.relpath(names.old_path(asked, project, path), folder)
             if inside.startswith(os.pardir):
                 continue
             outlines = self.outlines.setdefault(
                 project, Outlines(lambda prefix, own=project: self.tags_of(view, own, prefix))  # type: ignore[misc]
             )
             tags = outlines.of(inside, text)
-            yield from names.places(questions, tags, self.settings.tags_folder)
+            yield from names.places(asked, tags, self.settings.tags_folder)
 
     def files(self, parameters: Parameters) -> dict[str, Any]:
         """The files whose names have the letters of a text."""
@@ -214,14 +210,14 @@ class Browser:
         view, name = self.view(parameters), parameters.get("path", "")
         path = view.path(name)
         with view.lock:
-            commit, line, character = permalink(view, path, *place_in(parameters))
+            commit, line, character = permalink(view, Place(path, *position_in(parameters)))
         return {
             "href": href(name, line, character, commit),
             "said": f"copied, with the revision {commit[:12]}",
         }
 
 
-def place_in(parameters: Parameters) -> tuple[int, int]:
+def position_in(parameters: Parameters) -> tuple[int, int]:
     """The line and the character of a question; raises Refused."""
     values = [parameters.get(name, "") for name in ("line", "character")]
     numbers = [int(value) for value in values if value.isdecimal() and len(value) < 11]

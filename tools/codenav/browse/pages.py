@@ -14,6 +14,7 @@ from typing import Any, Iterator
 from codenav.browse.colours import KINDS, MOST_CHARACTERS, coloured, lexer_of
 from codenav.browse.folder import Entry, Folder, Refused, href
 from codenav.browse.view import View, unknown_words
+from codenav.texts.decoded import lines_in
 
 PAGE = os.path.join(os.path.dirname(os.path.abspath(__file__)), "page")
 BLOCK = 100
@@ -111,7 +112,7 @@ def file_page(view: View, name: str, project: str, search: str) -> Iterator[str]
     with view.lock:
         is_folder = os.path.isdir(path)
         text = "" if is_folder else view.text(path)
-    lines = [line.removesuffix("\r") for line in text.split("\n")]
+    lines = lines_in(text)
     content = '<p id="empty">Choose a file, or press <kbd>f</kbd> to find one by its name.</p>'
     if not is_folder:
         content = code(lines, name, view.revision)

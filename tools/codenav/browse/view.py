@@ -6,15 +6,17 @@ import threading
 from contextlib import suppress
 from typing import Iterator, Optional
 
-from codenav.asking.questions import Reply
+from codenav.asking.project import Reply
 from codenav.asking.workspace import Workspace
 from codenav.browse.folder import MOST_BYTES, Folder, Refused
 from codenav.faults import BadCall, NoReply
 from codenav.settings.found import Settings
+from codenav.texts.decoded import lines_in
 from codenav.texts.git import git, line_of, top_of
-from codenav.texts.indexed import Checkout
 from codenav.texts.moved.text_map import TextMap
 from codenav.texts.moved.tokens import tokens_of
+from codenav.texts.places import Place
+from codenav.texts.revisions import Checkout
 
 TODAY = "Without ?revision= in the address the page is that of today's file."
 
@@ -41,8 +43,8 @@ class View:
         with self.lock:
             if self.checkout:
                 self.checkout.end()
-            for indexed in self.workspace.mapping.values():
-                indexed.end()
+            for today in self.workspace.mapping.values():
+                today.end()
 
     def text(self, path: str) -> str:
         """The text of a file, by its whole path; raises Refused."""
@@ -67,7 +69,7 @@ class View:
 
     def lines(self, path: str) -> list[str]:
         """The lines of a file."""
-        return [line.removesuffix("\r") for line in self.text(path).split("\n")]
+        return lines_in(self.text(path))
 
     def path(self, name: str) -> str:
         """The whole path of a file or folder; raises Refused. A file of a revision needs none of
@@ -79,17 +81,16 @@ class View:
         not the same, and how the indexed text is called."""
         settings = self.workspace.settings(path) or self.settings
         with suppress(BadCall):
-            project = self.workspace.projects(settings, path)[0]
-            questions = self.workspace.questions(settings, project)
+            project = self.workspace.project(settings, self.workspace.projects(settings, path)[0])
             with suppress(NoReply):
-                questions.learn(path, again=True)
-            _, (_, found, _, label) = questions.indexed.map_of(project, path)
+                project.learn(path, again=True)
+            _, (_, found, _, label) = project.today.map_of(project.name, path)
             return (None, "") if found is None or found.is_same else (found, label)
         return None, ""
 
-    def ask(self, what: str, path: str, line: int, character: int) -> tuple[Reply, str]:
+    def ask(self, what: str, at: Place) -> tuple[Reply, str]:
         """What is found at a place, and what is said of it besides. Raises NotThere and BadCall."""
-        return self.workspace.ask(what, path, line, character), self.noted()
+        return self.workspace.ask(what, at), self.noted()
 
     def noted(self) -> str:
         """What was said since that was asked for last."""
@@ -116,9 +117,10 @@ def unknown_words(text_map: TextMap) -> Iterator[tuple[int, list[int]]]:
             yield number, words
 
 
-def permalink(view: View, path: str, line: int, character: int) -> tuple[str, int, int]:
+def permalink(view: View, at: Place) -> tuple[str, int, int]:
     """The commit of today's HEAD, and where a place of a file is in it; raises Refused where it
     isn't there."""
+    path, line, character = at
     top = top_of(os.path.dirname(os.path.realpath(path)))
     commit = (
         view.revision or line_of(git(top, "rev-parse", "--verify", "--quiet", "HEAD^{commit}"))

@@ -2,8 +2,7 @@
 
 import argparse
 import sys
-from dataclasses import dataclass
-from typing import Any, Callable, Generic, Optional, Sequence, TypeVar, cast
+from typing import Any, Callable, Generic, NamedTuple, Optional, Sequence, TypeVar, cast
 
 from codenav.cli.ends import status_of
 from codenav.cli.options import Help, with_server
@@ -11,10 +10,10 @@ from codenav.cli.options import Help, with_server
 Call = TypeVar("Call")
 
 
-@dataclass(frozen=True)
-class Command(Generic[Call]):
+class Command(NamedTuple, Generic[Call]):
     """`record` has the defaults of all options; `add` adds them to a parser, without defaults, and
-    `run` answers the status: 0, or 1 for what its help says."""
+    `run` answers the status: 0, or 1 for what its help says. (A dataclass takes `ask` longer to
+    load.)"""
 
     word: str
     text: str
@@ -25,6 +24,7 @@ class Command(Generic[Call]):
     usage: Optional[str] = None
     names_server: bool = False  # the first word is the address of a server
     is_mixed: bool = False  # options may stand between the words
+    filled: Optional[Callable[[argparse.ArgumentParser, list[str]], list[str]]] = None
 
     def parser(self) -> argparse.ArgumentParser:
         """What a call may be."""
@@ -42,7 +42,8 @@ class Command(Generic[Call]):
     def read(self, words: Sequence[str]) -> Call:
         """The call that words make; ends the process with status 2 where they make none."""
         parser = self.parser()
-        given = with_server(parser, list(words)) if self.names_server else list(words)
+        given = self.filled(parser, list(words)) if self.filled else list(words)
+        given = with_server(parser, given) if self.names_server else given
         call: Any = self.record()
         parse: Any = parser.parse_intermixed_args if self.is_mixed else parser.parse_args
         parse(given, namespace=call)

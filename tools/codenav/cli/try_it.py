@@ -31,7 +31,9 @@ pub fn fahrenheit(celsius: i32) -> i32
 Degrees Fahrenheit of degrees Celsius, rounded towards zero."""
 FOLDER = "temperature=demo/crate"
 TAG = "demo/crate/src/lib.rs:17:8: is_warm"
-NOT_MAPPED = "ask: temperature: no revision is kept with its index; its places aren't mapped"
+NOT_MAPPED = (
+    "codenav ask: temperature: no revision is kept with its index; its places aren't mapped"
+)
 NO_DUMP = "D01 project has no dump: file:///src/tr/crate/src/lib.rs"
 SECONDS = 60
 
@@ -78,7 +80,7 @@ def steps(url: str, dump: str) -> list[Step]:
         Step(["list", url], "temperature: dump and tags"),
         Step(["remove", *project], "temperature: removed"),
         # where there's no such project it asks for a set of that name and for tags too
-        Step([*ask, *DEFINITION], f"ask: {NO_DUMP}", 2, requests=6 + len(BEGINNINGS)),
+        Step([*ask, *DEFINITION], f"codenav ask: {NO_DUMP}", 2, requests=6 + len(BEGINNINGS)),
         Step(upload, accepted),
         asked(DEFINITION, at_definition),
     ]

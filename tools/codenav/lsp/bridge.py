@@ -1,21 +1,11 @@
-"""A language server for every editor: speaks the Language Server Protocol 3.17 on its standard
-input and output, and asks `codenav serve` for the answers.
+"""Answers an editor that speaks the Language Server Protocol 3.17, by asking `codenav serve`."""
 
-The project of a file is that of the command line, or that of a file `.codenav.toml` above it. Where
-it's known which texts were indexed, positions are mapped between these and the texts in the editor;
-else they are those of the indexed files.
-"""
-
-import argparse
 import json
 import os
-import sys
 from typing import Any, BinaryIO, Callable, Optional
 
-from codenav.asking.by_name import add_by_name
-from codenav.asking.tags import Names, folders_of
+from codenav.asking.tags import Names
 from codenav.asking.workspace import Workspace
-from codenav.cli.options import add_server, parsed
 from codenav.faults import BadCall
 from codenav.lsp.jsonrpc import (
     INTERNAL_ERROR,
@@ -31,48 +21,15 @@ from codenav.lsp.jsonrpc import (
     write_message,
 )
 from codenav.lsp.open_documents import OpenDocuments, document_name
-from codenav.settings.found import Settings, given_server, name_of
+from codenav.lsp.symbols import symbol
+from codenav.settings.found import Settings
 from codenav.texts.decoded import body_of, is_read_as, text_of
-from codenav.texts.indexed import NotThere, add_indexed, sources_of
-from codenav.texts.places import Place, link_map, maps_of, path_of
+from codenav.texts.places import Place, link_map, path_of
+from codenav.texts.today import NotThere
 
 MOST = 2147483647
 MOST_SYMBOLS = 256
 ERROR, WARNING, INFO = 1, 2, 3
-SYMBOLS = {
-    "n": 3,
-    "namespace": 3,
-    "module": 2,
-    "p": 12,
-    "P": 6,
-    "method": 6,
-    "c": 5,
-    "class": 5,
-    "m": 8,
-    "member": 8,
-    "field": 8,
-    "f": 12,
-    "function": 12,
-    "func": 12,
-    "v": 13,
-    "variable": 13,
-    "C": 14,
-    "constant": 14,
-    "g": 10,
-    "enum": 10,
-    "e": 22,
-    "enumerator": 22,
-    "i": 11,
-    "interface": 11,
-    "s": 23,
-    "struct": 23,
-    "u": 23,
-    "union": 23,
-    "t": 26,
-    "typedef": 26,
-    "type": 26,
-}
-VARIABLE = 13
 CAPABILITIES = {
     "positionEncoding": "utf-16",
     "textDocumentSync": {"openClose": True, "change": 1},
@@ -234,7 +191,7 @@ class Bridge:
             raise Fault(INVALID_PARAMS, "no position")
         name = document_name(uri)
         try:
-            reply = self.workspace.ask(what, name, line, character, **more)
+            reply = self.workspace.ask(what, Place(name, line, character), **more)
         except NotThere as fault:
             self.warn(str(fault))
             return None
@@ -314,17 +271,6 @@ class Bridge:
         return symbols
 
 
-def symbol(tag: dict[str, Any], place: Place, uri: str) -> Message:
-    """A tag as the protocol has it."""
-    start = {"line": place.line, "character": place.character}
-    return {
-        "name": tag["name"],
-        "kind": SYMBOLS.get(tag["kind"], VARIABLE),
-        "containerName": tag["project"],
-        "location": {"uri": uri, "range": {"start": start, "end": start}},
-    }
-
-
 QUERIES = {
     "textDocument/definition": Bridge.definition,
     "textDocument/declaration": Bridge.declaration,
@@ -352,92 +298,3 @@ def serve(bridge: Bridge, inbox: Inbox) -> int:
         if message is None or is_exit(message):
             return 0 if bridge.is_shut else 1
         bridge.take(message)
-
-
-def logger(path: Optional[str]) -> Callable[[str, bytes], None]:
-    """What writes the traffic to a file, one message a line, or nowhere. That the file can't be
-    written any more is said once, on the standard error."""
-    file = open(os.devnull if path is None else path, "wb", buffering=0)
-    faults: list[OSError] = []
-
-    def log(way: str, body: bytes) -> None:
-        line = b"%s %s\n" % (way.encode(), body.replace(b"\r", b" ").replace(b"\n", b" "))
-        try:
-            file.write(line)
-        except OSError as fault:
-            if not faults:
-                print(f"lsp: {path}: {fault.strerror}", file=sys.stderr)
-            faults[:] = [fault]
-
-    return log
-
-
-def words_parser() -> argparse.ArgumentParser:
-    """What the command line may be."""
-    parser = argparse.ArgumentParser(
-        prog="lsp", description=__doc__, formatter_class=argparse.RawDescriptionHelpFormatter
-    )
-    parser.add_argument(
-        "--map",
-        action="append",
-        default=[],
-        metavar="URI=FOLDER",
-        help="documents below URI are the files of FOLDER",
-    )
-    parser.add_argument(
-        "--tags",
-        action="append",
-        default=[],
-        metavar="PROJECT=FOLDER",
-        help="the tags file of PROJECT was made in FOLDER; that of the project asked for, without it, in the editor's folder",
-    )
-    parser.add_argument("--log", metavar="FILE", help="write the traffic with the editor to FILE")
-    add_indexed(parser)
-    add_by_name(parser)
-    add_server(parser, is_optional=True)
-    parser.add_argument(
-        "project",
-        metavar="PROJECT",
-        nargs="?",
-        help="the project or set of the editor's files; without it a .codenav.toml above each file says which",
-    )
-    return parser
-
-
-def settings_given(call: argparse.Namespace) -> Optional[Settings]:
-    """What the command line says of the editor's files; nothing where it names no project. Raises
-    BadCall."""
-    if call.project is None:
-        if call.url not in (None, os.environ.get("CODENAV_URL")):
-            raise BadCall(f"no project, of the server {call.url}")
-        return None
-    sources_of(call.revision, call.indexed, call.project, os.getcwd())
-    return Settings(
-        given_server(call.url),
-        name_of(call.project),
-        os.getcwd(),
-        maps_of(call.map),
-        folders_of(call.tags),
-        tuple(call.revision),
-        call.indexed,
-    )
-
-
-def main(words: Optional[list[str]] = None) -> int:
-    """Reads the command line and serves; answers 0 after `shutdown` and `exit`, 1 after an end
-    without, and 2 where the call can't be carried out."""
-    call = parsed(words_parser(), words)
-    try:
-        given = settings_given(call)
-        log = logger(call.log)
-    except OSError as fault:
-        print(f"lsp: {fault.filename}: {fault.strerror}", file=sys.stderr)
-        return 2
-    except BadCall as fault:
-        print(f"lsp: {fault}", file=sys.stderr)
-        return 2
-    try:
-        bridge = Bridge(given, sys.stdout.buffer, log, call.by_name)
-        return serve(bridge, Inbox(sys.stdin.buffer, log))
-    except BrokenPipeError:
-        os._exit(1)

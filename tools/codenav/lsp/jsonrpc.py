@@ -2,6 +2,7 @@
 ("Base Protocol")."""
 
 import json
+import os
 import re
 import threading
 from queue import SimpleQueue
@@ -149,3 +150,21 @@ def write_message(out: BinaryIO, body: bytes) -> None:
     """Writes a message with its head."""
     out.write(b"Content-Length: %d\r\n\r\n%s" % (len(body), body))
     out.flush()
+
+
+def logger(path: Optional[str], say: Callable[[str], None]) -> Callable[[str, bytes], None]:
+    """What writes the traffic to a file, one message a line, or nowhere. That the file can't be
+    written any more is said once."""
+    file = open(os.devnull if path is None else path, "wb", buffering=0)
+    faults: list[OSError] = []
+
+    def log(way: str, body: bytes) -> None:
+        line = b"%s %s\n" % (way.encode(), body.replace(b"\r", b" ").replace(b"\n", b" "))
+        try:
+            file.write(line)
+        except OSError as fault:
+            if not faults:
+                say(f"{path}: {fault.strerror}")
+            faults[:] = [fault]
+
+    return log

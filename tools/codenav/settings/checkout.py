@@ -6,17 +6,15 @@ import os
 from typing import Any
 from urllib.parse import urlsplit
 
-from codenav.cli.options import url_in
-from codenav.client.http import place_of
+from codenav.client.login import place_of
 from codenav.faults import BadCall
 from codenav.names import server_of
 from codenav.settings.found import FILE, found_in_file, given_server
 
 
-def target_of(words: list[str]) -> tuple[str, str, str]:
-    """The server, the project and the folder of the words `[[URL] PROJECT] [FOLDER]`; what they
-    lack is what the settings in the folder say. Raises BadCall."""
-    url, words = url_in(words)
+def target_of(url: str, words: list[str]) -> tuple[str, str, str]:
+    """The server, the project and the folder of the words `[[URL] PROJECT] [FOLDER]`, of which the
+    first may be empty; what they lack is what the settings in the folder say. Raises BadCall."""
     is_folder = bool(words) and (os.sep in words[0] or words[0] in (os.curdir, os.pardir))
     project, *rest = ["", *words] if is_folder else words or [""]
     if len(rest) > 1:

@@ -5,12 +5,12 @@ import os
 from typing import Any, Iterator, NamedTuple, Optional
 
 from codenav.addresses import folder_address
-from codenav.client.http import named_by_call, named_by_file
+from codenav.client.login import named_by_call, named_by_file
 from codenav.faults import BadCall
-from codenav.names import project_of, server_of
-from codenav.sets.manifest import set_name
+from codenav.names import project_of, server_of, set_name
 from codenav.texts.decoded import body_of
 from codenav.texts.places import Maps, link_map
+from codenav.texts.sources import Source, sources_of
 
 FILE = ".codenav.toml"
 KEYS = {
@@ -58,6 +58,10 @@ class Settings(NamedTuple):
         """The folder in which a project's tags file was made: its own, where none is named, at the
         top of the files."""
         return self.tags.get(project, self.folder if project == self.project else None)
+
+    def sources(self) -> dict[str, Source]:
+        """Where the texts are that were indexed, by projects. Raises BadCall."""
+        return sources_of(list(self.revisions), self.indexed, self.project, self.folder)
 
     def projects(self) -> list[str]:
         """The projects whose names are shown: its own, and those whose tags files are here."""

@@ -112,6 +112,17 @@ def plain(part: str) -> str:
     return os.fsdecode(unquote_to_bytes(part))
 
 
+def work_tree(path: str) -> str:
+    """The top of the work tree of git that a file is in; empty where it's in none."""
+    folder = os.path.dirname(os.path.realpath(path))
+    while not os.path.lexists(os.path.join(folder, ".git")):
+        above = os.path.dirname(folder)
+        if above == folder:
+            return ""
+        folder = above
+    return folder
+
+
 def shown(path: str) -> str:
     """A path as it's printed: from the folder that the call was made in where the file lies
     there."""

@@ -4,26 +4,21 @@ elements nor the `shard` of an item is looked at, nor what other edges there are
 import json
 from typing import Any, Callable
 
-from codenav.dumps.lsif.reading import Element
-from codenav.dumps.prepare.survey import KINDS, LABELS, MANY, SINGLE, is_sound
+from codenav.dumps.lsif.elements import Element
+from codenav.dumps.prepare.labels import FROM, INTO, LABELS, NUMBERS
+from codenav.dumps.prepare.survey import is_sound
+from codenav.kinds import KINDS
 
-SOURCES = ("range", "resultSet")
 ROLES = ("definitions", "references", "referenceResults")
 JOINED: dict[str, dict[tuple[str, str], tuple[Any, ...]]] = {
     "contains": {("project", "document"): (), ("document", "range"): ()},
     "item": {
-        ("definitionResult", "range"): (None, "definitions"),
-        ("declarationResult", "range"): (None,),
-        ("implementationResult", "range"): (None,),
-        ("referenceResult", "range"): ("definitions", "references"),
+        **{(kind.result, "range"): kind.properties for kind in KINDS if kind.properties},
         ("referenceResult", "referenceResult"): ("referenceResults",),
     },
     **{
-        label: {
-            (source, LABELS[kind]): ()
-            for source in (("moniker",) if label in ("packageInformation", "attach") else SOURCES)
-        }
-        for label, kind in (*SINGLE.items(), *MANY.items())
+        label: {(LABELS[source], LABELS[target]): () for source in FROM[label]}
+        for label, target in INTO.items()
     },
 }
 """What edges of each label join, and the properties of an item that does."""
@@ -47,7 +42,7 @@ def flaw(edge: Element, kind: Callable[[Any], str]) -> str:
         if not kind(end):
             return f"no vertex has the id {json.dumps(end)} (L09 vertex not emitted before)"
     source, kinds = kind(own), {kind(end) for end in those}
-    if label == "item" and source not in (*KINDS, "$event"):
+    if label == "item" and source not in (*NUMBERS, "$event"):
         return ""
     for (known, target), roles in JOINED[label].items():
         if known == source and kinds <= {target} and (label != "item" or role in roles):

@@ -9,25 +9,23 @@ without the places of other parts.
 
 import time
 from contextlib import contextmanager
-from typing import Any, Callable, Iterator, Optional
+from typing import Iterator, Optional
 
+from codenav.client.fetch import Fetch
 from codenav.faults import NoReply
+from codenav.names import BRANCH, base_name, shown_name
 from codenav.sets.manifest import (
     ABOUT,
-    BRANCH,
     CLAIM,
     PART,
     PARTS,
     SURFACE,
     Head,
     NotAManifest,
-    base_name,
     head_of,
     mark_in,
-    shown_name,
 )
 
-Fetch = Callable[[str, dict[str, Any], str], Any]
 BRIEF = 5.0
 AWAY_SECONDS = 60.0
 

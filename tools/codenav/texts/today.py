@@ -1,33 +1,25 @@
-"""What a project's index speaks of, the texts that were indexed, and where their places are in the
-files of today.
+"""Where the places of a project's index are in the files of today.
 
-A source has the texts: a git revision, or a folder. A question's place is mapped back to the text
-that was indexed, and each place of the answer forward. What isn't there is said, and never answered
-by what stands nearest.
+A question's place is mapped back to the text that was indexed, and each place of the answer
+forward. What isn't there is said, and never answered by what stands nearest.
 """
 
 from __future__ import annotations
 
-import argparse
 import os
-import time
-from typing import TYPE_CHECKING, Any, Callable, NamedTuple, Optional, Protocol, TypeVar
+from typing import TYPE_CHECKING, Any, Callable, NamedTuple, Optional
 
 from codenav.addresses import spelled
 from codenav.faults import BadCall
-from codenav.names import project_of
-from codenav.texts.decoded import text_of
-from codenav.texts.places import Maps, path_of, shown, uri_of
+from codenav.texts.decoded import lines_of, text_of
+from codenav.texts.places import Maps, Place, path_of, shown, units, uri_of
+from codenav.texts.sources import Source
 
 if TYPE_CHECKING:
-    from codenav.texts.git import Revision
     from codenav.texts.moved.text_map import TextMap
+    from codenav.texts.revisions import Checkout
 
 Position = tuple[int, int]
-Found = TypeVar("Found")
-FRESH = 5.0
-"""Seconds for which it stands that git didn't find something."""
-
 MOST_MAPS = 32
 """Maps that are kept, those that were used last."""
 MOST_CHECKOUTS = 8
@@ -38,152 +30,7 @@ class NotThere(Exception):
     """A place that the text which was indexed doesn't have; the text is the one line to say."""
 
 
-class Source(Protocol):
-    """Where the texts that were indexed are; names of files are whole paths."""
-
-    label: str
-
-    def old_path(self, path: str) -> str:
-        """The path that a file of today had."""
-
-    def new_path(self, path: str) -> str:
-        """The path that a file has today."""
-
-    def text(self, path: str) -> str:
-        """The text of a file, by the path that it had. Raises BadCall where there is none."""
-
-    def end(self) -> None:
-        """Ends what was started to read texts."""
-
-
-class Folder:
-    """The texts that were indexed are those of a folder, of which another one has today's."""
-
-    def __init__(self, folder: str, today: str) -> None:
-        self.folder, self.today = os.path.realpath(folder), os.path.realpath(today)
-        self.label = folder
-        if not os.path.isdir(self.folder):
-            raise BadCall(f"{folder}: not a folder")
-
-    def old_path(self, path: str) -> str:
-        """The path itself: names are the same in both folders."""
-        return path
-
-    def new_path(self, path: str) -> str:
-        """The path itself."""
-        return path
-
-    def text(self, path: str) -> str:
-        """The text of a file."""
-        inside = os.path.relpath(os.path.realpath(path), self.today)
-        if inside.split(os.sep)[0] == os.pardir:
-            raise BadCall(f"{path}: not below {self.today}")
-        return text_of(os.path.join(self.folder, inside))
-
-    def end(self) -> None:
-        """Ends nothing."""
-
-
-class Checkout:
-    """The texts that were indexed are those of a revision, in the work tree that a file is in."""
-
-    def __init__(self, revision: str) -> None:
-        self.label = revision
-        self.tops: dict[str, str] = {}
-        self.revisions: dict[str, Revision] = {}
-        self.faults: dict[str, tuple[float, str]] = {}
-
-    def of(self, path: str) -> Revision:
-        """The revision of the work tree that a file is in. Raises BadCall where it's in none, or
-        that has no such revision."""
-        if "\0" in self.label:
-            raise BadCall(f"no revision {self.label!r}")
-        folder = work_tree(path) or os.path.dirname(os.path.realpath(path))
-        while not os.path.isdir(folder):
-            folder = os.path.dirname(folder)
-        from codenav.texts.git import Revision, checked_top
-
-        top = self.once(self.tops, folder, checked_top)
-        return self.once(self.revisions, top, lambda own: Revision(own, self.label))
-
-    def once(self, known: dict[str, Found], key: str, find: Callable[[str], Found]) -> Found:
-        """What is known of a folder, or is found of it now. Raises BadCall, for some seconds without
-        another look."""
-        if key not in known:
-            since, fault = self.faults.get(key, (0.0, ""))
-            if fault and time.monotonic() - since < FRESH:
-                raise BadCall(fault)
-            try:
-                known[key] = find(key)
-            except BadCall as failed:
-                self.faults[key] = time.monotonic(), str(failed)
-                raise
-        return known[key]
-
-    def old_path(self, path: str) -> str:
-        """The path that a file of today had, before it was renamed."""
-        return self.of(path).old_path(path)
-
-    def new_path(self, path: str) -> str:
-        """The path that a file has today."""
-        return self.of(path).new_path(path)
-
-    def text(self, path: str) -> str:
-        """The text of a file of the revision."""
-        revision = self.of(path)
-        return revision.text(revision.inside(path))
-
-    def end(self) -> None:
-        """Ends git."""
-        for revision in self.revisions.values():
-            revision.end()
-
-
-def work_tree(path: str) -> str:
-    """The top of the work tree of git that a file is in; empty where it's in none."""
-    folder = os.path.dirname(os.path.realpath(path))
-    while not os.path.lexists(os.path.join(folder, ".git")):
-        above = os.path.dirname(folder)
-        if above == folder:
-            return ""
-        folder = above
-    return folder
-
-
-def add_indexed(parser: argparse.ArgumentParser) -> None:
-    """Adds the options that say which texts were indexed."""
-    parser.add_argument(
-        "--revision",
-        action="append",
-        default=[],
-        metavar="REV",
-        help="the git revision that was indexed: positions are mapped between its texts and today's; PROJECT=REV for another project",
-    )
-    parser.add_argument(
-        "--indexed",
-        metavar="FOLDER",
-        help="a folder that has the texts which were indexed, where they're in no git",
-    )
-
-
-def sources_of(
-    revisions: list[str], indexed: Optional[str], project: str, today: str
-) -> dict[str, Source]:
-    """The source of each project, by the words `REV`, of the project that is asked, or
-    `PROJECT=REV`, and a folder of the texts of that project."""
-    sources: dict[str, Source] = {}
-    for word in revisions:
-        other, mark, named = word.partition("=")
-        revision = named if mark else word
-        if not revision or mark and not other:
-            raise BadCall("--revision takes REV or PROJECT=REV, neither of them empty")
-        sources[project_of(other) if mark else project] = Checkout(revision)
-    if indexed is not None:
-        sources[project] = Folder(indexed, today)
-    return sources
-
-
-class Asked(NamedTuple):
+class IndexPlace(NamedTuple):
     """What the index knows a place by: the document, the line and the character; how the indexed
     text is called, where today's differs; and why the place isn't mapped, where it can't be."""
 
@@ -230,15 +77,21 @@ def position_of(found: dict[str, int]) -> Position:
     return found["line"], found["character"]
 
 
-def no_source(project: str, path: str) -> Optional[Source]:
-    """No source for the files of projects that aren't asked."""
-    return None
+def is_whole_file(place: dict[str, Any], file: str) -> bool:
+    """Whether a place is all of the file."""
+    lines = lines_of(file)
+    last = max((number for number, line in enumerate(lines) if line), default=0)
+    return (
+        os.path.realpath(place["path"] or "") == os.path.realpath(file)
+        and position_of(place["start"]) == (0, 0)
+        and position_of(place["end"]) >= (last, units(lines[last]))
+    )
 
 
-class Indexed:
+class Today:
     """Maps places between the index of projects and the files of today.
 
-    `today` reads a file, as an editor has it; `say` is called with a line about a file whose places
+    `read` reads a file, as an editor has it; `say` is called with a line about a file whose places
     can't be mapped, once for each line. `others` knows the sources of projects that `sources`
     doesn't have, by a project and the path of a file. Of what neither has, an index says itself of
     which revision it is.
@@ -249,11 +102,11 @@ class Indexed:
         sources: dict[str, Source],
         maps: Maps,
         say: Callable[[str], None],
-        today: Callable[[str], str] = text_of,
-        others: Callable[[str, str], Optional[Source]] = no_source,
+        read: Callable[[str], str] = text_of,
+        others: Callable[[str, str], Optional[Source]] = lambda project, path: None,
     ) -> None:
         self.sources, self.maps, self.say = sources, maps, say
-        self.today, self.others = today, others
+        self.read, self.others = read, others
         self.learnt: dict[str, tuple[str, str]] = {}
         self.checkouts: dict[str, Checkout] = {}
         self.kept: dict[str, tuple[str, str, TextMap]] = {}
@@ -286,9 +139,9 @@ class Indexed:
         revision, _ = self.learnt.get(project, ("", ""))
         if known or not revision:
             return known
-        checkout = (
-            self.checkouts.pop(revision) if revision in self.checkouts else Checkout(revision)
-        )
+        from codenav.texts.revisions import Checkout  # here, for few calls need git
+
+        checkout = self.checkouts.pop(revision, None) or Checkout(revision)
         self.checkouts[revision] = checkout
         if len(self.checkouts) > MOST_CHECKOUTS:
             self.checkouts.pop(next(iter(self.checkouts))).end()
@@ -314,7 +167,7 @@ class Indexed:
             text = source.text(old)
         except BadCall as fault:
             return path, FileMap(path, None, f"{fault}; its places aren't mapped")
-        return old, FileMap(path, self.kept_map(path, text, self.today(path)), "", source.label)
+        return old, FileMap(path, self.kept_map(path, text, self.read(path)), "", source.label)
 
     def kept_map(self, path: str, text: str, today: str) -> TextMap:
         """The map from the indexed text of a file to that of today; those that were used last are
@@ -329,23 +182,24 @@ class Indexed:
             del self.kept[next(iter(self.kept))]
         return kept[2]
 
-    def asked(self, project: str, path: str, line: int, character: int) -> Asked:
+    def to_index(self, project: str, at: Place) -> IndexPlace:
         """What the index knows a place by, of a file of today, or of a document by its address,
         which isn't mapped.
 
         Raises NotThere where the place is new, and BadCall where there is no such file.
         """
+        path, line, character = at
         if not os.path.isabs(path):
-            return Asked(spelled(path), line, character, "")
+            return IndexPlace(spelled(path), line, character, "")
         old, (_, text_map, fault, label) = self.map_of(project, path)
         place = (line, character) if text_map is None else text_map.backward(line, character)
         if place is None:
             where = f"{shown(path)}:{line + 1}"
             raise NotThere(f"{where}: this word isn't in the text that was indexed ({label})")
         is_same = text_map is None or text_map.is_same
-        return Asked(uri_of(old, self.maps), *place, "" if is_same else label, fault)
+        return IndexPlace(uri_of(old, self.maps), *place, "" if is_same else label, fault)
 
-    def places(self, found: list[dict[str, Any]]) -> list[dict[str, Any]]:
+    def from_index(self, found: list[dict[str, Any]]) -> list[dict[str, Any]]:
         """The places of an answer as they are today, each with the member `path`, which is None of
         a document that is no file.
 
@@ -385,6 +239,6 @@ class Indexed:
         except BadCall as fault:
             return FileMap(path, None, f"{fault}; its places aren't mapped")
         try:
-            return FileMap(new, self.kept_map(new, text, self.today(new)), "", source.label)
+            return FileMap(new, self.kept_map(new, text, self.read(new)), "", source.label)
         except BadCall as fault:
             return FileMap(None, None, str(fault), source.label)

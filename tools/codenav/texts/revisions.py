@@ -1,0 +1,269 @@
+"""The texts of a git revision, the names that files had there, and the names that they have today.
+
+A repository is asked by one `git cat-file --batch` for texts, and by one more for the names of
+their blobs.
+"""
+
+import os
+import secrets
+import subprocess
+import threading
+import time
+from contextlib import suppress
+from typing import Callable, Optional, TypeVar
+
+from codenav.faults import BadCall
+from codenav.texts.decoded import decoded
+from codenav.texts.git import (
+    ENVIRONMENT,
+    NO_ANSWER,
+    SECONDS,
+    checked_top,
+    commit_of,
+    copied_index,
+    git,
+    no_revision,
+)
+from codenav.texts.places import work_tree
+
+Found = TypeVar("Found")
+FRESH = 5.0
+"""Seconds for which it stands that git didn't find something."""
+AWAY = 60.0
+"""Seconds for which it isn't asked again where no answer came in time."""
+
+
+class Batch:
+    """A `git cat-file` that is asked for one object after the other. It's started where it's needed,
+    and again where it ended; one that gives no answer in time is ended, and isn't asked again at
+    once."""
+
+    def __init__(self, top: str, *words: str) -> None:
+        self.top, self.words = top, words
+        self.end_line = os.fsencode(f"{secrets.token_hex(20)} missing\n")
+        self.process: Optional[subprocess.Popen[bytes]] = None
+        self.away = 0.0
+
+    def asked(self, line: str) -> bytes:
+        """What it prints of an object; nothing where it ends at this one alone, as at one that a
+        partial clone would fetch. Raises BadCall where it gives no answer."""
+        if "\n" in line:
+            return b""
+        none = b"0" * 40
+        for asked in (os.fsencode(line), none, os.fsencode(line)):
+            found = self.answer(asked) if time.monotonic() >= self.away else None
+            if found is not None and asked != none:
+                return found
+            if found is None:
+                self.end()
+                if asked == none or time.monotonic() < self.away:
+                    self.away = max(self.away, time.monotonic() + FRESH)
+                    raise BadCall(NO_ANSWER.format(self.top))
+        return b""
+
+    def answer(self, line: bytes) -> Optional[bytes]:
+        """What it prints of an object, up to what it says of one that can't be there, which is
+        asked for next; None where it ended before.
+
+        The size that git prints isn't how much comes: it's that of the stored text, before the
+        filters.
+        """
+        process = self.process = self.process or self.started()
+        assert process.stdin is not None and process.stdout is not None
+        timer = threading.Timer(SECONDS, self.give_up, [process])
+        timer.daemon = True
+        timer.start()
+        lines = []
+        try:
+            process.stdin.write(line + b"\n" + self.end_line.split()[0] + b"\n")
+            process.stdin.flush()
+            while (found := process.stdout.readline()) != self.end_line:
+                if not found:
+                    return None
+                lines.append(found)
+        except OSError:
+            return None
+        finally:
+            timer.cancel()
+        return b"".join(lines)
+
+    def started(self) -> subprocess.Popen[bytes]:
+        """A process of git. Raises BadCall."""
+        try:
+            return subprocess.Popen(
+                ["git", "-C", self.top, "cat-file", *self.words],
+                stdin=subprocess.PIPE,
+                stdout=subprocess.PIPE,
+                stderr=subprocess.DEVNULL,
+                env={**os.environ, **ENVIRONMENT},
+            )
+        except OSError as fault:
+            raise BadCall(f"{self.top}: git can't be started: {fault.strerror}") from None
+
+    def give_up(self, process: subprocess.Popen[bytes]) -> None:
+        """Ends a process that gives no answer."""
+        self.away = time.monotonic() + AWAY
+        process.kill()
+
+    def end(self) -> None:
+        """Ends it."""
+        process, self.process = self.process, None
+        if process is not None:
+            process.kill()
+            with suppress(OSError):
+                process.communicate()
+
+
+class Revision:
+    """A revision of a repository, which has a work tree."""
+
+    def __init__(self, top: str, revision: str) -> None:
+        self.top, self.name = os.path.realpath(top), revision
+        self.commit = commit_of(top, revision)
+        self.names = Batch(self.top, "--batch-check")
+        self.blobs = Batch(self.top, "--batch", "--filters")
+        self.old_names: dict[str, str] = {}
+        self.new_names: dict[str, str] = {}
+        self.listed = -FRESH
+
+    def end(self) -> None:
+        """Ends the processes."""
+        self.names.end()
+        self.blobs.end()
+
+    def inside(self, path: str) -> str:
+        """The name of a file in the work tree; a link's is that of the file it leads to."""
+        return os.path.relpath(os.path.realpath(path), self.top)
+
+    def old_path(self, path: str) -> str:
+        """The path that a file of today had."""
+        name = self.inside(path)
+        return self.base(path, name) + self.old_name(name)
+
+    def new_path(self, path: str) -> str:
+        """The path that a file of the revision has today."""
+        name = self.inside(path)
+        return self.base(path, name) + self.new_name(name)
+
+    def base(self, path: str, name: str) -> str:
+        """The top of the work tree as a path names it; without links, where there are such behind
+        it."""
+        is_plain = path.endswith(os.sep + name)
+        return path[: -len(name)] if is_plain else self.top + os.sep
+
+    def blob(self, name: str) -> str:
+        """The blob of a file of the revision, or nothing."""
+        words = self.names.asked(f"{self.commit}:{name}").split(b" ")
+        return words[0].decode() if words[1:2] == [b"blob"] else ""
+
+    def text(self, name: str) -> str:
+        """The text of a file of the revision, as a checkout writes it. Raises BadCall where there
+        is none."""
+        blob = self.blob(name)
+        found = self.blobs.asked(f"{blob} {name}") if blob else b""
+        _, mark, body = found.partition(b"\n")
+        if not mark:
+            is_gone = self.names.asked(self.commit).endswith(b" missing\n")
+            raise BadCall(
+                no_revision(self.top, self.name) if is_gone else f"{name}: not in {self.name}"
+            )
+        try:
+            return decoded(body[:-1])
+        except ValueError as fault:
+            raise BadCall(f"{name}: {fault} in {self.name}") from None
+
+    def old_name(self, name: str) -> str:
+        """The name at the revision of a file of today."""
+        if self.blob(name):
+            return name
+        if name not in self.old_names:
+            self.list_renames()
+        return self.old_names.get(name, name)
+
+    def new_name(self, name: str) -> str:
+        """The name of today of a file of the revision."""
+        if self.is_there(name):
+            return name
+        if not self.is_there(self.new_names.get(name, name)):
+            self.list_renames()
+        return self.new_names.get(name, name)
+
+    def is_there(self, name: str) -> bool:
+        """Whether there is a file of this name today."""
+        return os.path.lexists(os.path.join(self.top, name))
+
+    def list_renames(self) -> None:
+        """Lists which files have other names today, those that git doesn't know yet among
+        them; not more often than every few seconds."""
+        if time.monotonic() - self.listed < FRESH:
+            return
+        self.old_names, self.new_names = {}, {}
+        fields = iter(os.fsdecode(self.changes()).split("\0"))
+        for status in fields:
+            if status.startswith("R"):
+                old, new = next(fields), next(fields)
+                self.old_names[new], self.new_names[old] = old, new
+            elif status:
+                next(fields)
+        self.listed = time.monotonic()
+
+    def changes(self) -> bytes:
+        """What git says of the files that changed since the revision, by a copy of its index to
+        which new files are added."""
+        words = ["--no-ext-diff", "--ignore-submodules", "--find-renames", "--name-status", "-z"]
+        with copied_index(self.top) as variables:
+            git(self.top, "add", "--intent-to-add", ".", variables=variables)
+            return git(self.top, "diff", *words, self.commit, "--", variables=variables) or b""
+
+
+class Checkout:
+    """The texts that were indexed are those of a revision, in the work tree that a file is in."""
+
+    def __init__(self, revision: str) -> None:
+        self.label = revision
+        self.tops: dict[str, str] = {}
+        self.revisions: dict[str, Revision] = {}
+        self.faults: dict[str, tuple[float, str]] = {}
+
+    def of(self, path: str) -> Revision:
+        """The revision of the work tree that a file is in. Raises BadCall where it's in none, or
+        that has no such revision."""
+        if "\0" in self.label:
+            raise BadCall(f"no revision {self.label!r}")
+        folder = work_tree(path) or os.path.dirname(os.path.realpath(path))
+        while not os.path.isdir(folder):
+            folder = os.path.dirname(folder)
+        top = self.once(self.tops, folder, checked_top)
+        return self.once(self.revisions, top, lambda own: Revision(own, self.label))
+
+    def once(self, known: dict[str, Found], key: str, find: Callable[[str], Found]) -> Found:
+        """What is known of a folder, or is found of it now. Raises BadCall, for some seconds without
+        another look."""
+        if key not in known:
+            since, fault = self.faults.get(key, (0.0, ""))
+            if fault and time.monotonic() - since < FRESH:
+                raise BadCall(fault)
+            try:
+                known[key] = find(key)
+            except BadCall as failed:
+                self.faults[key] = time.monotonic(), str(failed)
+                raise
+        return known[key]
+
+    def old_path(self, path: str) -> str:
+        """The path that a file of today had, before it was renamed."""
+        return self.of(path).old_path(path)
+
+    def new_path(self, path: str) -> str:
+        """The path that a file has today."""
+        return self.of(path).new_path(path)
+
+    def text(self, path: str) -> str:
+        """The text of a file of the revision."""
+        revision = self.of(path)
+        return revision.text(revision.inside(path))
+
+    def end(self) -> None:
+        """Ends git."""
+        for revision in self.revisions.values():
+            revision.end()
