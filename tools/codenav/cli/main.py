@@ -10,7 +10,6 @@ from typing import Any, Callable, NamedTuple, NoReturn, Optional
 from codenav import VERSION
 from codenav.cli.ends import raise_signal, status_of
 from codenav.faults import BadCall
-from codenav.program import NONE, WORDS, Program
 
 
 class Tool(NamedTuple):
@@ -77,6 +76,8 @@ def usage() -> str:
 
 def version() -> str:
     """Which tools and which program these are, and whether that's known to be proved."""
+    from codenav.program import NONE, Program  # here, for it takes `ask` long to load
+
     program = Program.found()
     if program is None:
         return f"codenav {VERSION}\n{NONE}"
@@ -106,7 +107,9 @@ def main_of(name: str) -> Callable[[list[str]], int]:
 
 def called(name: str, words: list[str]) -> int:
     """Calls a word. The program takes this process's place."""
-    if name in WORDS:
+    if name in OWN:
+        from codenav.program import Program
+
         os.execv(Program.needed().path, ["codenav", name, *words])
     return main_of(name)(words)
 
@@ -117,7 +120,7 @@ def main(words: Optional[list[str]] = None) -> int:
     if words[:1] in (["--help"], ["-h"], ["--version"], ["-V"]):
         print(version() if words[0] in ("--version", "-V") else usage())
         return 0
-    if not words or words[0] not in {*TOOLS, *WORDS}:
+    if not words or words[0] not in {*TOOLS, *OWN}:
         named = f"no word {words[0]!r}: " if words else ""
         print(f"codenav: {named}codenav --help lists the words", file=sys.stderr)
         return 2
