@@ -8,7 +8,7 @@ usage: bench/gate.py measure COMMAND..    runs it; before its last line it print
        bench/gate.py ratio LOG            the cost of the whole over that of the proofs and tests
                                           of the crates that measure it; what ran alone; and the
                                           time by the clock on 2, 4 and 8 processors
-       bench/gate.py table LOG            the costs as a table of docs/DEVELOPING.md, in minutes
+       bench/gate.py table LOG            the costs as a table of docs/inside/DEVELOPING.md, in minutes
 
 The whole is what the system counted for the command and all that it started. A part is the time of
 the processes of one crate, as it was seen last before each ended, looked at a few times a second;

@@ -1,5 +1,5 @@
 """Which definitions the promise of `replay` rests on, file by file, with their lines: what
-docs/DEFINITIONS.md says in its last part, which a test of the tools compares with this.
+docs/inside/DEFINITIONS.md says in its last part, which a test of the tools compares with this.
 
 usage: bench/promise.py [NAME..]   (default Replays; names of crates/codenav/specs/Replay.antt)
 
