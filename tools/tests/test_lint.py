@@ -13,7 +13,7 @@ import tomllib
 
 from tests.servers import TOP
 
-CHECKED = ["tools/codenav", "tools/tests", "bench", "quick"]
+CHECKED = ["tools/codenav", "tools/tests", "bench", "checks", "quick"]
 CHECKED += ["packaging/stage", "packaging/completions"]
 BLACK = "23."
 
