@@ -3,7 +3,6 @@ with status 2, and the set answers as before."""
 
 import os
 import subprocess
-import sys
 import unittest
 
 from codenav.faults import Fault
@@ -30,8 +29,7 @@ class BadInput(OnFile):
     def launched(self, tool: str, *words: str) -> "subprocess.Popen[str]":
         """A call of a tool."""
         return subprocess.Popen(
-            [sys.executable, "-B", "-m", "codenav", tool, *words],
-            cwd=os.path.join(TOP, "tools"),
+            [*command(tool), *words],
             stdin=subprocess.DEVNULL,
             stdout=subprocess.PIPE,
             stderr=subprocess.PIPE,

@@ -18,7 +18,7 @@ from codenav.cli.upload import UPLOAD
 from codenav.client.http import address, found_in, request
 from codenav.program import Program
 from tests.repository import git_in
-from tests.servers import NOT_BUILT, TOP, OnServer, Relay, built_program
+from tests.servers import NOT_BUILT, OnServer, Relay, built_program, command
 from tests.test_explain import DOCUMENT, META, edge, vertex
 
 DUMP = """{"id":1,"type":"vertex","label":"metaData","version":"0.6.0"}
@@ -164,11 +164,8 @@ class Uploads(OnServer):
             with self.subTest(path), Program(self.program).serve() as server:
                 url = server.url
                 with Relay(url, 1) as relay, open(self.files["A"], "rb") as file:
-                    words = [*TOOL, "upload", "--retry", relay.url, "app", path]
-                    where = os.path.join(TOP, "tools")
-                    subprocess.run(
-                        words, input=file.read(), capture_output=True, check=True, cwd=where
-                    )
+                    words = [*command("upload"), "--retry", relay.url, "app", path]
+                    subprocess.run(words, input=file.read(), capture_output=True, check=True)
                 self.assertEqual((self.there(url), relay.taken), (("A", ""), 2))
 
     def test_a_dump_that_is_never_accepted(self) -> None:
