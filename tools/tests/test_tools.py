@@ -20,7 +20,7 @@ from codenav.client import projects
 from codenav.client.http import Answer
 from codenav.dumps.tables import rows
 from codenav.texts import places
-from tests.servers import replying
+from tests.servers import command, replying
 
 TOP = os.path.dirname(os.path.dirname(os.path.dirname(os.path.abspath(__file__))))
 RAW = os.path.join(TOP, "demo", "crate.raw.lsif")
@@ -284,10 +284,8 @@ class Prepare(unittest.TestCase):
         )
 
     def test_a_broken_pipe(self) -> None:
-        tool = os.path.join(TOP, "tools", "prepare-lsif")
-        with subprocess.Popen(
-            [tool, RAW, "-"], stdout=subprocess.PIPE, stderr=subprocess.PIPE
-        ) as run:
+        words = [*command("prepare-lsif"), RAW, "-"]
+        with subprocess.Popen(words, stdout=subprocess.PIPE, stderr=subprocess.PIPE) as run:
             run.stdout.close()  # type: ignore[union-attr]
             said = run.stderr.read()  # type: ignore[union-attr]
         self.assertNotIn(b"Traceback", said)
