@@ -12,6 +12,7 @@ from unittest import mock
 
 from codenav.cli.explain import EXPLAIN
 from codenav.dumps.check import lines, sentences
+from tests.servers import command
 
 TOP = os.path.dirname(os.path.dirname(os.path.dirname(os.path.abspath(__file__))))
 CODES = {f"L{number:02}" for number in range(1, 21)} | {"E01", "E02"}
@@ -414,7 +415,7 @@ class Explain(unittest.TestCase):
                 )
 
     def test_the_standard_input_and_no_file(self) -> None:
-        tool, dump = command("explain-fault"), os.path.join("demo", "exchanged.lsif")
+        tool, dump = command("explain"), os.path.join("demo", "exchanged.lsif")
         done = subprocess.run(
             [*tool, dump],
             input=b"line 8: L09 vertex not emitted before\n",

@@ -294,7 +294,7 @@ class Input(unittest.TestCase):
             with open(old, "rb") as file:
                 self.assertEqual(file.read(), b"before")
         with open("/dev/full", "wb") as full:
-            words = [*command("prepare-lsif"), BASE, "-"]
+            words = [*command("prepare"), BASE, "-"]
             done = subprocess.run(words, stdout=full, stderr=subprocess.PIPE, text=True)
         self.assertEqual(
             (done.returncode, done.stderr),

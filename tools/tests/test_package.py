@@ -9,10 +9,11 @@ import signal
 import socket
 import subprocess
 import tempfile
-import tomllib
 import unittest
 import venv
 from contextlib import redirect_stderr, redirect_stdout
+
+import tomllib
 
 from codenav import VERSION
 from codenav.cli.main import TOOLS, main, usage
