@@ -414,7 +414,7 @@ class Explain(unittest.TestCase):
                 )
 
     def test_the_standard_input_and_no_file(self) -> None:
-        tool, dump = command("explain-fault"), os.path.join("demo", "exchanged.lsif")
+        tool, dump = command("explain"), os.path.join("demo", "exchanged.lsif")
         done = subprocess.run(
             [*tool, dump],
             input=b"line 8: L09 vertex not emitted before\n",

@@ -284,7 +284,7 @@ class Prepare(unittest.TestCase):
         )
 
     def test_a_broken_pipe(self) -> None:
-        words = [*command("prepare-lsif"), RAW, "-"]
+        words = [*command("prepare"), RAW, "-"]
         with subprocess.Popen(words, stdout=subprocess.PIPE, stderr=subprocess.PIPE) as run:
             run.stdout.close()  # type: ignore[union-attr]
             said = run.stderr.read()  # type: ignore[union-attr]
