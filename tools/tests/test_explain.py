@@ -12,6 +12,7 @@ from unittest import mock
 
 from codenav.cli.explain import EXPLAIN
 from codenav.dumps.check import lines, sentences
+from tests.servers import command
 
 TOP = os.path.dirname(os.path.dirname(os.path.dirname(os.path.abspath(__file__))))
 CODES = {f"L{number:02}" for number in range(1, 21)} | {"E01", "E02"}

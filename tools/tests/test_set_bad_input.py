@@ -7,7 +7,7 @@ import unittest
 
 from codenav.faults import Fault
 from codenav.sets.publish.store import Store
-from tests.servers import TOP
+from tests.servers import TOP, command
 from tests.split_files import split_file
 from tests.test_set_service import CRATE, LIB, MAP, NAME, OnFile, Revisions
 

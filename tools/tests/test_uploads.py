@@ -6,7 +6,6 @@ import io
 import json
 import os
 import subprocess
-import sys
 import tempfile
 import unittest
 from contextlib import redirect_stderr, redirect_stdout
@@ -29,7 +28,6 @@ DUMP = """{"id":1,"type":"vertex","label":"metaData","version":"0.6.0"}
 {"id":6,"type":"edge","label":"contains","outV":2,"inVs":[3]}
 """
 RING = 2_500
-TOOL = [sys.executable, "-B", "-m", "codenav"]
 TAGS = "!_TAG_FILE_FORMAT\t2\t//\n!_TAG_FILE_SORTED\t1\t//\n%s\ta.c\t1\n"
 
 
