@@ -16,7 +16,7 @@ sys.path.insert(
 from importlib.machinery import SourceFileLoader
 from importlib.util import module_from_spec, spec_from_loader
 
-from codenav.client import upload
+from codenav.cli.upload import UPLOAD
 from codenav.faults import NoReply
 from codenav.program import Program
 from codenav.texts.places import lines_of
@@ -49,7 +49,7 @@ def main() -> int:
             crate, _, dumps = pair.partition("=")
             for number, dump in enumerate(dumps.split(",")):
                 project = f"p{number}"
-                if upload.main("lsif", ["--profile", "2", url, project, dump]) != 0:
+                if UPLOAD.main(["--profile", "2", url, project, dump]) != 0:
                     sys.exit(f"{dump} isn't accepted")
                 counts: Counter[str] = Counter()
                 for path in files_of(crate):

@@ -22,16 +22,17 @@ from typing import Any, NamedTuple
 TOP = os.path.dirname(os.path.dirname(os.path.abspath(__file__)))
 sys.path.insert(0, os.path.join(TOP, "tools"))
 
-from sets import KINDS, points_of
-
 from codenav.asking.index import Index
 from codenav.client.fetch import Fetch, fetch_from
-from codenav.faults import Failed
 from codenav.program import Program
-from codenav.sets.publish.publish import Publish, Store
-from codenav.sets.publish.spread import Made, Spread, made_surface
+from codenav.progress import Quiet
+from codenav.sets.publish.publish import Publish
+from codenav.sets.publish.spread import Spread
+from codenav.sets.publish.store import Store
 from codenav.sets.ring import home_of
-from codenav.sets.split import split
+from codenav.sets.split.split import SplitOptions, split
+from codenav.sets.surface.made import SurfaceFiles, made_surface
+from sets import KINDS, points_of
 
 NUMBERS = 3, 5, 10, 30, 100
 PLACEMENTS = 100
@@ -47,7 +48,7 @@ class Crate(NamedTuple):
     name: str
     folder: str
     elements: int
-    surface: Made
+    surface: SurfaceFiles
     points: list[tuple[str, int, int]]
 
     def weight(self) -> int:
@@ -59,9 +60,8 @@ def crate_of(path: str, folder: str) -> Crate:
     """Splits a dump and makes its surface, below a folder."""
     name = os.path.basename(path).partition(".")[0].lower()
     own = os.path.join(folder, name)
-    if split.main(["--name", name, path, own]) != 0:
-        raise Failed(f"{path}: it can't be split")
-    surface = made_surface(path, name, "1", os.path.join(own, "surface"))
+    split(path, SplitOptions(name), own, Quiet())
+    surface = made_surface(path, name, "1", os.path.join(own, "surface"), Quiet())
     with open(path, "rb") as file:
         elements = sum(1 for _ in file)
     return Crate(name, own, elements, surface, points_of(own, MOST))

@@ -13,10 +13,10 @@ from urllib.parse import parse_qsl, urlencode
 from servers import ask, least_times, nginx
 
 from codenav.asking.index import Index
+from codenav.cli.publish import PUBLISH
 from codenav.client.fetch import fetch_from
 from codenav.faults import Failed
 from codenav.program import Program, free_port
-from codenav.publishing import publish
 from tests.fronts import NOBODY, USER, Front, fronted, lacking
 
 PROJECTS = [f"project_{number}" for number in range(30)]
@@ -201,7 +201,7 @@ def publish_all(front: Front, servers: list[str], kept: Optional[str] = None) ->
         words = ["--servers", ",".join(servers), "--no-tags", "--dump", path]
         words += ["--keep", f"{kept}/{project}"] if kept else []
         with redirect_stdout(StringIO()), redirect_stderr(StringIO()) as said:
-            status = publish.main([*words, front.url, project, folder])
+            status = PUBLISH.main([*words, front.url, project, folder])
         if status != 0:
             raise Failed(f"publish {project}: {said.getvalue()}")
 

@@ -24,23 +24,24 @@ import sys
 import tempfile
 import time
 from concurrent.futures import ProcessPoolExecutor
-from contextlib import ExitStack, redirect_stderr
-from io import StringIO
+from contextlib import ExitStack
 from typing import Any, Callable
 
 TOP = os.path.dirname(os.path.dirname(os.path.abspath(__file__)))
 sys.path.insert(0, os.path.join(TOP, "tools"))
 
 from joined_dumps import Place, make_text, write_renamed
-from sets import children_seconds, processor_seconds, stage
 
 from codenav.asking.index import Index
 from codenav.client.fetch import fetch_from
 from codenav.faults import Failed
 from codenav.program import Program, Running
-from codenav.sets.publish.publish import Publish, Store
-from codenav.sets.publish.spread import Made, made_surface
-from codenav.sets.split import split
+from codenav.progress import Quiet
+from codenav.sets.publish.publish import Publish
+from codenav.sets.publish.store import Store
+from codenav.sets.split.split import SplitOptions, split
+from codenav.sets.surface.made import SurfaceFiles, made_surface
+from sets import children_seconds, processor_seconds, stage
 
 ASKED = 400
 SECONDS = 300
@@ -61,16 +62,12 @@ def in_child(used: dict[str, float], call: Callable[..., Any], *words: object) -
 
 def split_dump(dump: str, name: str, folder: str) -> str:
     """Splits a dump into a folder; answers what is said."""
-    with redirect_stderr(StringIO()) as said:
-        if split.main(["--name", name, dump, folder]) != 0:
-            raise Failed(said.getvalue())
-    return said.getvalue().strip()
+    return "\n".join(split(dump, SplitOptions(name), folder, Quiet()).lines())
 
 
-def surface_of(dump: str, name: str, folder: str) -> Made:
+def surface_of(dump: str, name: str, folder: str) -> SurfaceFiles:
     """Makes the surface of a dump in a folder."""
-    with redirect_stderr(StringIO()):
-        return made_surface(dump, name, "1", folder)
+    return made_surface(dump, name, "1", folder, Quiet())
 
 
 def parts_in(folder: str) -> list[str]:

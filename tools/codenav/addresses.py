@@ -4,6 +4,7 @@ server. So the tools write and ask for each in one: percent-encoded where it has
 hexadecimal digits in upper case, and with the letter of a drive in lower case.
 """
 
+import os
 import re
 import string
 from typing import Optional
@@ -81,3 +82,9 @@ def folder_address(text: str) -> str:
 def serialized(uri: str) -> str:
     """The text by which the server knows the document of an address; what is no address stays."""
     return href(uri) or uri
+
+
+def root_of(given: str) -> str:
+    """The address of a root that is given by that, or as a folder."""
+    is_folder = not is_address(given) and address_of(given) is None
+    return folder_address(os.path.abspath(given) if is_folder else given)

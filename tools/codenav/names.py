@@ -1,4 +1,4 @@
-"""The address of a server, and the names of projects and keys."""
+"""The address of a server, and the names of projects, sets and keys."""
 
 import re
 from urllib.parse import urlsplit
@@ -6,6 +6,12 @@ from urllib.parse import urlsplit
 from codenav.faults import BadCall
 
 PROJECT = re.compile(r"[a-z0-9_-]{1,64}")
+
+
+SET = re.compile(r"[a-z0-9_-]{1,47}")
+
+
+BRANCH = "--"
 
 
 KEY = re.compile(r"[A-Za-z0-9_-]{1,64}")
@@ -45,3 +51,23 @@ def key_of(text: str) -> str:
     if not KEY.fullmatch(text):
         raise BadCall(f"a key is 1 to 64 characters of A-Z a-z 0-9 _ -, not {text!r}")
     return text
+
+
+def set_name(text: str) -> str:
+    """The name that a set has on the server: `NAME@BRANCH`, another revision beside the set NAME,
+    is `NAME--BRANCH` there. Raises BadCall."""
+    name = text.replace("@", BRANCH)
+    if text.count("@") > 1 or SET.fullmatch(name) is None:
+        raise BadCall(f"a set is 1 to 47 characters of a-z 0-9 _ -, or NAME@BRANCH, not {text!r}")
+    return name
+
+
+def shown_name(name: str) -> str:
+    """The name of a set as its users write it."""
+    base, between, branch = name.partition(BRANCH)
+    return f"{base}@{branch}" if base and between and branch else name
+
+
+def base_name(name: str) -> str:
+    """The set that a set is another revision of, or its own name."""
+    return shown_name(name).partition("@")[0]

@@ -8,7 +8,7 @@ from typing import Any, Mapping, NamedTuple, Optional, Sequence
 from codenav.client.fetch import Fetch
 from codenav.faults import NoReply
 from codenav.sets.manifest import Tag, tag_of
-from codenav.sets.publish.publish import Store
+from codenav.sets.publish.store import Store
 from codenav.sets.ring import Ring
 from tests.dump_walks import Question, Walk, answered
 

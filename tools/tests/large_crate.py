@@ -12,7 +12,7 @@ from typing import Iterator, NamedTuple
 
 from codenav.faults import Failed
 from codenav.program import Program
-from codenav.sets.publish.publish import Store
+from codenav.sets.publish.store import Store
 from codenav.texts.places import uri_of
 from tests.debian_crates import ANALYZER, copied
 from tests.demo_server import succeed

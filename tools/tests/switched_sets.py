@@ -3,22 +3,23 @@ whole dumps: `code`, of which there are three revisions, a set `user` and a proj
 joined to it."""
 
 import functools
-import io
 import os
 import random
-from contextlib import redirect_stderr
 from typing import Any, Iterator, NamedTuple, Optional
 from unittest import mock
 
 from codenav.dumps.tables import graph
-from codenav.sets.manifest import MANIFEST, PART, PARTS, read_head
-from codenav.sets.publish import publish
+from codenav.progress import Quiet
+from codenav.sets.files import MANIFEST, read_head
+from codenav.sets.manifest import PART, PARTS
+from codenav.sets.publish import claim
 from codenav.sets.publish.publish import Publish, remove_set
-from codenav.sets.publish.spread import Spread, keep_surface, made_surface
-from codenav.sets.split import split
+from codenav.sets.publish.spread import Spread
 from codenav.sets.split.crossing import Shared
+from codenav.sets.surface.made import keep_surface, made_surface
 from tests.dump_walks import OF_PROFILE, Maker, Question, Walk, answered, body_of, questions
 from tests.in_memory import FRONT, Kept, Killed, Moment, Servers, tags_of, walk_of
+from tests.split_files import said_of_split
 from tests.test_sets import flat_of
 
 CODE, USER, OTHER = "code", "user", "other"
@@ -37,14 +38,14 @@ def split_into(folder: str, name: str, body: bytes, tags: bytes, profile: str) -
     for path, content in (whole, body), (beside, tags):
         with open(path, "wb") as out:
             out.write(content)
-    words = ["--jobs", "1", "--profile", profile, "--name", name, "--tags", beside]
-    words += ["--map", f"file:///{name}=/tags", "--tags-folder", "/tags"]
+    options: dict[str, Any] = {"profile": profile, "tags": beside, "tags_folder": "/tags"}
+    options["maps"] = (f"file:///{name}=/tags",)
     for most in range(40, 1000, 20):
-        with redirect_stderr(io.StringIO()) as said:
-            if split.main([*words, "--elements", str(most), whole, folder]) == 0:
-                break
+        status, said = said_of_split(whole, folder, name, elements=most, **options)
+        if status == 0:
+            break
     else:
-        raise AssertionError(said.getvalue())
+        raise AssertionError(said)
     flat = flat_of(whole, profile)
     return {flat.keys[key] for key in Shared(flat, graph.ASKED[profile]).hidden}
 
@@ -192,7 +193,7 @@ class Scene:
         if OTHER in self.others:
             self.put(servers, OTHER, self.others[OTHER])
         begin = len(servers.moments) - 1
-        with mock.patch.object(publish, "is_alive", lambda record: False):
+        with mock.patch.object(claim, "is_alive", lambda record: False):
             for what, revision, left in acts:
                 servers.left = left
                 try:
@@ -235,7 +236,7 @@ class SpreadScene(Scene):
         hidden = super().split(name, number, content)
         folder = self.folder_of(name, number)
         whole, own = os.path.join(folder, "whole"), os.path.join(folder, "surface")
-        keep_surface(folder, made_surface(whole, name, self.profiles[name], own))
+        keep_surface(folder, made_surface(whole, name, self.profiles[name], own, Quiet()))
         return hidden
 
     def publish(self, servers: Servers, name: str, number: int) -> None:

@@ -16,10 +16,10 @@ from urllib.parse import quote
 from codenav.addresses import spelled
 from codenav.asking.index import Index
 from codenav.client.fetch import fetch_from
-from codenav.client.upload import fresh_key
+from codenav.client.projects import fresh_key
 from codenav.faults import BadCall, NoReply
-from codenav.sets.publish.publish import Publish, Store
-from codenav.sets.split import split
+from codenav.sets.publish.publish import Publish
+from codenav.sets.publish.store import Store
 from codenav.settings.found import settings_of
 from codenav.texts.places import map_words, maps_of, path_of, uri_of
 from codenav.texts.sources import sources_of
@@ -27,6 +27,7 @@ from codenav.urls import href
 from tests.dump_walks import body_of
 from tests.randomly import check_cases
 from tests.servers import OnServer
+from tests.split_files import split_file
 from tests.test_split import made
 
 NEWER = re.compile(r"\^|^[A-Za-z.+-]*:[^/\\].* [?#]")
@@ -286,8 +287,7 @@ class Documents(OnServer):
                 path, parts = os.path.join(folder, "dump"), os.path.join(folder, "set")
                 with open(path, "wb") as out:
                     out.write(body)
-                words = ["--jobs", "1", "--elements", "30", path, parts]
-                self.assertEqual(split.main(words), 0)
+                split_file(path, parts, elements=30)
                 Publish(Store(self.url), parts).run()
             for own in addresses:
                 for address in (own, spelled(own), href(own) or own):

@@ -9,11 +9,11 @@ import tempfile
 from contextlib import redirect_stderr, redirect_stdout
 
 from codenav.cli.ask import ASK
-from codenav.client import upload
+from codenav.cli.prepare import PREPARE
+from codenav.cli.upload import UPLOAD
 from codenav.client.fetch import fetch_from
-from codenav.dumps.prepare import prepare
 from codenav.texts import places
-from tests.servers import TOP, OnServer
+from tests.servers import TOP, OnServer, command
 
 CRATE = os.path.join(TOP, "demo", "crate")
 RAW = os.path.join(TOP, "demo", "crate.raw.lsif")
@@ -29,9 +29,9 @@ class Asking(OnServer):
         self.folder = os.path.realpath(self.enterContext(tempfile.TemporaryDirectory()))
         dump = os.path.join(self.folder, "dump")
         with redirect_stdout(io.StringIO()), redirect_stderr(io.StringIO()):
-            self.assertEqual(prepare.main([RAW, dump]), 0)
-            self.assertEqual(upload.main("lsif", [self.url, "app", dump]), 0)
-            self.assertEqual(upload.main("tags", [self.url, "app", TAGS]), 0)
+            self.assertEqual(PREPARE.main([RAW, dump]), 0)
+            self.assertEqual(UPLOAD.main([self.url, "app", dump]), 0)
+            self.assertEqual(UPLOAD.main([self.url, "app", TAGS]), 0)
 
     def asked(self, *words: str) -> tuple[int, str, str]:
         """The status, what was printed, and what was said as an error."""
@@ -85,7 +85,7 @@ class Asking(OnServer):
             with self.subTest(what, profile=profile):
                 words = ["--profile", profile, self.url, "app", dump]
                 with redirect_stdout(io.StringIO()), redirect_stderr(io.StringIO()):
-                    self.assertEqual(upload.main("lsif", words), 0)
+                    self.assertEqual(UPLOAD.main(words), 0)
                 words = ["--map", f"{ROOT}={CRATE}", self.url, "app", what, file, "1", "1"]
                 self.assertEqual(self.asked(*words), (1, "", NOT_MAPPED + said))
 
@@ -156,8 +156,16 @@ class Asking(OnServer):
         self.assertEqual(self.asked("--json", *words, "names", "none")[:2], (1, '{"tags":[]}\n'))
 
     def test_a_pipe_that_is_closed(self) -> None:
-        tool = os.path.join(TOP, "tools", "ask")
-        words = [tool, "--tags", f"app={CRATE}", self.url, "app", "names", "--prefix", "r"]
+        words = [
+            *command("ask"),
+            "--tags",
+            f"app={CRATE}",
+            self.url,
+            "app",
+            "names",
+            "--prefix",
+            "r",
+        ]
         with subprocess.Popen(words, stdout=subprocess.PIPE, stderr=subprocess.PIPE) as run:
             assert run.stdout is not None and run.stderr is not None
             run.stdout.close()

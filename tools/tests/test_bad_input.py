@@ -10,14 +10,11 @@ from contextlib import redirect_stderr, redirect_stdout
 from typing import Callable, Optional
 
 from codenav.cli.ask import ASK
+from codenav.cli.explain import EXPLAIN, WHY
+from codenav.cli.prepare import PREPARE
 from codenav.cli.projects import LIST, REMOVE
-from codenav.client import upload
-from codenav.dumps.check import explain, why
-from codenav.dumps.prepare import prepare
-from codenav.dumps.scip import to_lsif as scip_to_lsif
-from codenav.publishing import publish
-from codenav.sets.split import split
-from codenav.sets.surface import surface
+from codenav.cli.publish import PUBLISH
+from codenav.cli.upload import UPLOAD
 from tests.servers import TOP
 from tests.test_client import FOUND, Peer, environment, head_of, sends, status
 
@@ -88,27 +85,27 @@ class Files(unittest.TestCase):
         ):
             path, out = self.written(name, body), os.path.join(self.folder, "out")
             for tool, main, words in (
-                ("prepare-lsif", prepare.main, [path, out]),
+                ("codenav prepare", PREPARE.main, [path, out]),
                 (
-                    "publish",
-                    publish.main,
+                    "codenav publish",
+                    PUBLISH.main,
                     ["--dry-run", "--no-tags", "--dump", path, "http://h", "app", crate],
                 ),
             ):
                 with self.subTest(tool, name=name):
                     self.refused(main, words, f"^{tool}: .*{path}.*{line}")
             for tool, main, words in (
-                ("split-lsif", split.main, [path, out]),
-                ("surface-lsif", surface.main, [path, out]),
-                ("why", why.main, [path, "src/lib.rs", "18", "12"]),
-                ("explain-fault", explain.main, [path, "line 1000: L07 bad member"]),
+                ("codenav why", WHY.main, [path, "src/lib.rs", "18", "12"]),
+                ("codenav explain", EXPLAIN.main, [path, "line 1000: L07 bad member"]),
             ):
                 # `why` takes a dump that the server refuses, as long as it can be read.
-                if tool != "why" or name not in ("nothing", "cycle"):
+                if tool != "codenav why" or name not in ("nothing", "cycle"):
                     with self.subTest(tool, name=name):
                         self.refused(main, words, f"^{tool}: .*{path}")
         self.refused(
-            prepare.main, ["/no/dump", "out"], "^prepare-lsif: /no/dump: No such file or directory$"
+            PREPARE.main,
+            ["/no/dump", "out"],
+            "^codenav prepare: /no/dump: No such file or directory$",
         )
 
     def test_indexes(self) -> None:
@@ -124,9 +121,9 @@ class Files(unittest.TestCase):
             path = self.written(name, body)
             with self.subTest(name):
                 self.refused(
-                    scip_to_lsif.main,
+                    PREPARE.main,
                     [path, os.path.join(self.folder, "out")],
-                    f"^scip-to-lsif: .*{path}",
+                    f"^codenav prepare: .*{path}",
                 )
 
     def test_files_of_calls(self) -> None:
@@ -146,14 +143,14 @@ class Files(unittest.TestCase):
                 "--map takes URI=FOLDER",
             ),
             (
-                "upload-lsif",
-                lambda words: upload.main("lsif", words),
+                "codenav upload",
+                UPLOAD.main,
                 ["http://h", "app", self.folder],
                 "Is a directory",
             ),
             (
-                "upload-tags",
-                lambda words: upload.main("tags", words),
+                "codenav upload",
+                UPLOAD.main,
                 ["http://h", "app", "/no"],
                 "/no: No such file",
             ),
@@ -186,8 +183,7 @@ class Servers(unittest.TestCase):
                 ("ask", ASK.main, ["app", "definition", file, "18", "12"]),
                 ("list", LIST.main, []),
                 ("remove", REMOVE.main, ["app"]),
-                ("upload-lsif", lambda words: upload.main("lsif", words), ["app", RAW]),
-                ("upload-tags", lambda words: upload.main("tags", words), ["app", RAW]),
+                ("codenav upload", UPLOAD.main, ["app", RAW]),
             ]
             for tool, main, words in cases:
                 with self.subTest(tool, said=said), environment(), Peer(act) as peer:
@@ -205,10 +201,10 @@ class Servers(unittest.TestCase):
         words = ["--no-tags", "--dump", RAW]
         with environment(PATH="/no"), Peer(projects_there, refusal) as peer:
             server = f"http://127.0.0.1:{peer.port}"
-            found = called(publish.main, *words, server, "app", CRATE)
+            found = called(PUBLISH.main, *words, server, "app", CRATE)
         self.assertEqual(found[:2], (2, ""), found)
         last = found[2].splitlines()[-1]
-        self.assertRegex(last, f"^publish: {server}: .*status 413, the proxy takes no body")
+        self.assertRegex(last, f"^codenav publish: {server}: .*status 413, the proxy takes no body")
 
 
 if __name__ == "__main__":

@@ -10,8 +10,8 @@ from typing import Callable, NamedTuple
 from unittest import mock
 
 from codenav.cli.ask import ASK
-from codenav.client import upload
-from codenav.dumps.prepare import prepare
+from codenav.cli.prepare import PREPARE
+from codenav.cli.upload import UPLOAD
 from tests.repository import InRepository, git_in
 from tests.servers import TOP, OnServer
 
@@ -41,8 +41,8 @@ class BadTexts(OnServer, InRepository):
         self.enterContext(mock.patch.dict(os.environ, {"GIT_CONFIG_GLOBAL": os.devnull}))
         dump = os.path.join(self.home, "crate.lsif")
         with redirect_stdout(io.StringIO()), redirect_stderr(io.StringIO()):
-            prepare.main([os.path.join(TOP, "demo", "crate.raw.lsif"), dump])
-            self.assertEqual(upload.main("lsif", [self.url, "app", dump]), 0)
+            PREPARE.main([os.path.join(TOP, "demo", "crate.raw.lsif"), dump])
+            self.assertEqual(UPLOAD.main([self.url, "app", dump]), 0)
 
     def fresh(self) -> str:
         """Makes the checkout anew; answers its commit."""

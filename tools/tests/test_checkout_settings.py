@@ -14,8 +14,8 @@ import tomllib
 
 from codenav.cli.ask import ASK
 from codenav.cli.browse import BROWSE, browser_of
-from codenav.client import http as client
-from codenav.publishing import publish
+from codenav.cli.publish import PUBLISH
+from codenav.client import login
 from codenav.settings.found import FILE
 from tests.repository import InRepository
 from tests.servers import TOP, OnServer
@@ -37,7 +37,7 @@ class Written(OnServer, InRepository):
     def published(self, *words: str) -> tuple[int, str, str]:
         """What `publish` says of a call."""
         call = ["--no-tags", "--program", self.program, "--dump", RAW["crate"]]
-        return quietly(publish.main, *call, *words)
+        return quietly(PUBLISH.main, *call, *words)
 
     def test_a_checkout_is_published_and_asked(self) -> None:
         """By one call with words, and then by none; lines on top of a file change no answer."""
@@ -72,7 +72,7 @@ class Written(OnServer, InRepository):
         other settings."""
         more = 'server = "http://h:1"\nproject = "app"\n'
         self.write(FILE, more)
-        fault = f"publish: {self.file} has other settings, which --overwrite replaces\n"
+        fault = f"codenav publish: {self.file} has other settings, which --overwrite replaces\n"
         call = ["--write-settings", self.url, "app", self.top]
         status, _, said = self.published(*call)
         self.assertEqual((status, said.endswith(fault)), (2, True), said)
@@ -109,12 +109,20 @@ class Written(OnServer, InRepository):
                 f"codenav browse: no project, and no {FILE} above {self.top} says one",
             ),
             (BROWSE.main, [], "codenav browse: it takes [[URL] PROJECT] FOLDER"),
-            (publish.main, [self.top + "/"], f"publish: no project, and {self.file} says none"),
-            (publish.main, ["app", self.top], f"publish: no server, and {self.file} says none"),
             (
-                publish.main,
+                PUBLISH.main,
+                [self.top + "/"],
+                f"codenav publish: no project, and {self.file} says none",
+            ),
+            (
+                PUBLISH.main,
+                ["app", self.top],
+                f"codenav publish: no server, and {self.file} says none",
+            ),
+            (
+                PUBLISH.main,
                 [self.url, "app", self.top, "more"],
-                "publish: it takes [[URL] PROJECT] [FOLDER]",
+                "codenav publish: it takes [[URL] PROJECT] [FOLDER]",
             ),
         ]
         for tool, words, said in cases:
@@ -158,8 +166,8 @@ class Logins(InRepository):
         for words, named, is_sent in cases:
             variables = {"CODENAV_TOKEN": "secret", "CODENAV_URL": named, "NETRC": os.devnull}
             with mock.patch.dict(os.environ, variables), mock.patch.object(
-                client, "BY_CALL", set()
-            ), mock.patch.object(client, "BY_FILES", set()):
+                login, "BY_CALL", set()
+            ), mock.patch.object(login, "BY_FILES", set()):
                 seen.clear()
                 status, _, said = quietly(ASK.main, *words, "hover", path, "1", "1")
             self.assertEqual((status, seen), (2, ["Bearer secret" if is_sent else None]), words)

@@ -1,4 +1,4 @@
-"""Tests of `explain-fault`: for each code dumps that have it, and what is said of them."""
+"""Tests of `explain`: for each code dumps that have it, and what is said of them."""
 
 import io
 import json
@@ -10,7 +10,9 @@ from contextlib import redirect_stderr, redirect_stdout
 from typing import Any, NamedTuple, Union
 from unittest import mock
 
-from codenav.dumps.check import explain, sentences
+from codenav.cli.explain import EXPLAIN
+from codenav.dumps.check import lines, sentences
+from tests.servers import command
 
 TOP = os.path.dirname(os.path.dirname(os.path.dirname(os.path.abspath(__file__))))
 CODES = {f"L{number:02}" for number in range(1, 21)} | {"E01", "E02"}
@@ -268,7 +270,7 @@ class Explain(unittest.TestCase):
         with tempfile.NamedTemporaryFile() as file, redirect_stdout(said), redirect_stderr(warned):
             file.write(body)
             file.flush()
-            status = explain.main([file.name, fault])
+            status = EXPLAIN.main([file.name, fault])
         return (
             status,
             said.getvalue().replace(file.name, "FILE"),
@@ -282,17 +284,17 @@ class Explain(unittest.TestCase):
                 status, said, warned = self.explained(
                     "\n".join(row.dump).encode(), f"line {row.line}: {row.code} its text"
                 )
-                lines = said.splitlines()
+                found = said.splitlines()
                 self.assertEqual(
-                    (status, warned, lines[:1]), (0, "", [f"FILE:{row.line}: {row.code} its text"])
+                    (status, warned, found[:1]), (0, "", [f"FILE:{row.line}: {row.code} its text"])
                 )
-                notes = "\n".join(lines[2:-1])
+                notes = "\n".join(found[2:-1])
                 places = [notes.find(note) for note in row.notes]
                 self.assertTrue(-1 not in places and places == sorted(places), said)
                 self.assertEqual(notes == "", row.notes == [], said)
                 self.assertTrue(
-                    lines[-1].startswith("What an indexer should write: ")
-                    and row.said in lines[-1],
+                    found[-1].startswith("What an indexer should write: ")
+                    and row.said in found[-1],
                     said,
                 )
 
@@ -318,7 +320,7 @@ class Explain(unittest.TestCase):
     def test_a_line_over_the_limit_of_an_element(self) -> None:
         """It's explained by its beginning, and is the fault where one is said to be behind it."""
         body = b"\n".join([META.encode(), b"x" * 5_000, META.encode()])
-        with mock.patch.object(explain, "MOST_ELEMENT_BYTES", 200):
+        with mock.patch.object(lines, "MOST_ELEMENT_BYTES", 200):
             status, said, _ = self.explained(body, "line 2: L01 line too long")
             self.assertEqual((status, ".. (5000 bytes)" in said), (0, True), said)
             self.assertEqual(
@@ -326,7 +328,7 @@ class Explain(unittest.TestCase):
                 (
                     2,
                     "",
-                    "explain-fault: FILE, line 2: longer than 200 bytes, the limit of an element\n",
+                    "codenav explain: FILE, line 2: longer than 200 bytes, the limit of an element\n",
                 ),
             )
 
@@ -409,15 +411,13 @@ class Explain(unittest.TestCase):
         ):
             with self.subTest(fault):
                 self.assertEqual(
-                    self.explained(body.encode(), fault), (2, "", f"explain-fault: {message}\n")
+                    self.explained(body.encode(), fault), (2, "", f"codenav explain: {message}\n")
                 )
 
     def test_the_standard_input_and_no_file(self) -> None:
-        tool, dump = os.path.join(TOP, "tools", "explain-fault"), os.path.join(
-            "demo", "exchanged.lsif"
-        )
+        tool, dump = command("explain"), os.path.join("demo", "exchanged.lsif")
         done = subprocess.run(
-            [tool, dump],
+            [*tool, dump],
             input=b"line 8: L09 vertex not emitted before\n",
             capture_output=True,
             cwd=TOP,
@@ -427,7 +427,7 @@ class Explain(unittest.TestCase):
             (done.returncode, done.stdout[:39]), (0, b"demo/exchanged.lsif:8: L09 vertex not e")
         )
         done = subprocess.run(
-            [tool, "no/file"],
+            [*tool, "no/file"],
             input=b"line 8: L09 \xff\n",
             capture_output=True,
             cwd=TOP,
@@ -435,7 +435,7 @@ class Explain(unittest.TestCase):
         )
         self.assertEqual(
             (done.returncode, done.stderr),
-            (2, b"explain-fault: no/file: No such file or directory\n"),
+            (2, b"codenav explain: no/file: No such file or directory\n"),
         )
 
 

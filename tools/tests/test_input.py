@@ -13,12 +13,14 @@ from typing import Any, Optional
 from unittest import mock
 
 from codenav import addresses
-from codenav.dumps.check import why
+from codenav.cli.explain import WHY
+from codenav.cli.prepare import PREPARE
+from codenav.dumps import packed as packed_inputs
 from codenav.dumps.lsif import reading as lsif
-from codenav.dumps.prepare import prepare, rewriting, vertices
-from codenav.dumps.scip import to_lsif as scip_to_lsif
+from codenav.dumps.prepare import rewriting, vertices
 from tests.accepted import fault
 from tests.packages import needs
+from tests.servers import command
 
 TOP = os.path.dirname(os.path.dirname(os.path.dirname(os.path.abspath(__file__))))
 BASE = os.path.join(TOP, "demo", "base.lsif")
@@ -48,10 +50,8 @@ def vertex(own: Any, label: str, **members: Any) -> dict[str, Any]:
 
 
 class Input(unittest.TestCase):
-    def called(
-        self, tool: Any, body: Optional[bytes], *words: str
-    ) -> tuple[int, Optional[bytes], str]:
-        """The status of a tool that reads IN and writes OUT, what it wrote, and what it said; IN is
+    def called(self, body: Optional[bytes], *words: str) -> tuple[int, Optional[bytes], str]:
+        """The status of `prepare`, which reads IN and writes OUT, what it wrote, and what it said; IN is
         a folder where there is no body."""
         with tempfile.TemporaryDirectory() as folder, redirect_stderr(io.StringIO()) as said:
             source, out = os.path.join(folder, "in"), os.path.join(folder, "out")
@@ -60,7 +60,7 @@ class Input(unittest.TestCase):
             else:
                 with open(source, "wb") as file:
                     file.write(body)
-            status = tool.main([*words, source, out])
+            status = PREPARE.main([*words, source, out])
             self.assertLessEqual(set(os.listdir(folder)), {"in", "out"})
             if not os.path.exists(out):
                 return status, None, said.getvalue().replace(source, "IN")
@@ -96,8 +96,8 @@ class Input(unittest.TestCase):
             ("an array of UTF-16", json.dumps(elements, indent=2).encode("utf-16")),
         ):
             for size in (1 << 20, 7):
-                with self.subTest(form, size=size), mock.patch.object(lsif, "CHUNK", size):
-                    status, out, said = self.called(prepare, body)
+                with self.subTest(form, size=size), mock.patch.object(packed_inputs, "CHUNK", size):
+                    status, out, said = self.called(body)
                     wanted = crlf if form == "CRLF" else plain
                     if "indented" in form or form == "an array of UTF-16":
                         out, wanted = [json.loads(line) for line in (out or b"").splitlines()], elements  # type: ignore[assignment]
@@ -252,26 +252,28 @@ class Input(unittest.TestCase):
         ):
             with self.subTest(name), mock.patch.object(
                 lsif, "MOST_ELEMENT_BYTES", 256 if name.startswith("long") else 1 << 26
-            ), mock.patch.object(lsif, "CHUNK", 64 if name.startswith("long") else 1 << 20):
-                self.assertEqual(self.called(prepare, body), (2, None, f"prepare-lsif: {said}\n"))
+            ), mock.patch.object(
+                packed_inputs, "CHUNK", 64 if name.startswith("long") else 1 << 20
+            ):
+                self.assertEqual(self.called(body), (2, None, f"codenav prepare: {said}\n"))
 
     def test_what_grows_when_it_is_unpacked(self) -> None:
         needs("zstandard", "python3-zstandard")
         import zstandard
 
         body = b'{"id":1,"type":"vertex","label":"x","y":"' + b"x" * 8_000_000 + b'"}\n'
-        with mock.patch.object(lsif, "SMALL_BYTES", 1 << 20):
+        with mock.patch.object(packed_inputs, "SMALL_BYTES", 1 << 20):
             for packed in (gzip.compress(body), zstandard.ZstdCompressor().compress(body)):
-                status, out, said = self.called(prepare, packed)
+                status, out, said = self.called(packed)
                 self.assertEqual((status, out, said.count("\n")), (2, None, 1))
                 self.assertIn("unpacks to more than 100 times its ", said)
 
     def test_no_index(self) -> None:
         needs("google.protobuf", "python3-protobuf")
-        for body in (None, b"", b"\n", b"hello", b"\xff" * 99, gzip.compress(b"x")):
-            status, out, said = self.called(scip_to_lsif, body)
+        for body in (None, b"\n\x04", b"\x0a\xff" * 99, b"\x12\x01", gzip.compress(b"\x1a\x00")):
+            status, out, said = self.called(body)
             self.assertEqual((status, out, said.count("\n")), (2, None, 1), said)
-            self.assertTrue(said.startswith("scip-to-lsif: IN: "), said)
+            self.assertTrue(said.startswith("codenav prepare: IN: "), said)
 
     def test_outputs_that_are_refused(self) -> None:
         """A fault names the output as it was given, and what was there before stays."""
@@ -285,18 +287,18 @@ class Input(unittest.TestCase):
                 (folder, folder, "Is a directory"),
             ):
                 with redirect_stderr(io.StringIO()) as said:
-                    self.assertEqual(prepare.main([BASE, output]), 2)
-                self.assertEqual(said.getvalue(), f"prepare-lsif: {shown}: {text}\n")
+                    self.assertEqual(PREPARE.main([BASE, output]), 2)
+                self.assertEqual(said.getvalue(), f"codenav prepare: {shown}: {text}\n")
             with redirect_stderr(io.StringIO()):
-                self.assertEqual(prepare.main([os.devnull, old]), 2)
+                self.assertEqual(PREPARE.main([os.devnull, old]), 2)
             with open(old, "rb") as file:
                 self.assertEqual(file.read(), b"before")
         with open("/dev/full", "wb") as full:
-            tool = os.path.join(TOP, "tools", "prepare-lsif")
-            done = subprocess.run([tool, BASE, "-"], stdout=full, stderr=subprocess.PIPE, text=True)
+            words = [*command("prepare"), BASE, "-"]
+            done = subprocess.run(words, stdout=full, stderr=subprocess.PIPE, text=True)
         self.assertEqual(
             (done.returncode, done.stderr),
-            (2, "prepare-lsif: standard output: No space left on device\n"),
+            (2, "codenav prepare: standard output: No space left on device\n"),
         )
 
     def test_cycles_of_results(self) -> None:
@@ -308,7 +310,7 @@ class Input(unittest.TestCase):
             edge(5, "item", 3, [4], property="referenceResults", shard=2),
             edge(6, "item", 4, [3], property="referenceResults", shard=2),
         )
-        status, out, _ = self.called(prepare, body)
+        status, out, _ = self.called(body)
         self.assertEqual(
             (status, json.loads((out or b"").splitlines()[4])),
             (0, edge(5, "item", 3, [4], property="referenceResults", shard=2)),
@@ -338,7 +340,7 @@ class Input(unittest.TestCase):
         with mock.patch.object(rewriting, "MOST_LINE_BYTES", 4096), mock.patch.object(
             rewriting, "PART_BYTES", 2048
         ), mock.patch.object(vertices, "MOST_TEXT_BYTES", 4096):
-            status, out, said = self.called(prepare, body)
+            status, out, said = self.called(body)
         self.assertEqual(status, 0, said)
         self.assertLess(max(map(len, (out or b"").splitlines())), 4096)
         self.assertIsNone(fault(out or b"", "1"))
@@ -378,13 +380,17 @@ class Input(unittest.TestCase):
             (["test/deep/*", "src/*"], 1),
         ):
             words = [word for glob in globs for word in ("--without", glob)]
-            status, out, said = self.called(prepare, dumped(*rows), *words)
+            status, out, said = self.called(dumped(*rows), *words)
             self.assertEqual((status, (out or b"").count(b"\n")), (0, 1 + 8 * left), said)
             self.assertIsNone(fault(out or b"", "2"))
-        status, out, said = self.called(prepare, dumped(*rows), "--without", "tests/*")
+        status, out, said = self.called(dumped(*rows), "--without", "tests/*")
         self.assertEqual(
             (status, out, said),
-            (2, None, "prepare-lsif: IN: no document is like `tests/*`, which is to be left out\n"),
+            (
+                2,
+                None,
+                "codenav prepare: IN: no document is like `tests/*`, which is to be left out\n",
+            ),
         )
 
     def test_the_root(self) -> None:
@@ -415,7 +421,7 @@ class Input(unittest.TestCase):
         for rows, words, root in cases:
             with self.subTest(rows=rows, words=words):
                 for strip in (words, [*words, "--strip"]):
-                    status, out, said = self.called(prepare, dumped(*rows), *strip)
+                    status, out, said = self.called(dumped(*rows), *strip)
                     uris = [json.loads(row).get("uri") for row in (out or b"").splitlines()]
                     uris = [uri for uri in uris if uri]
                     if root is None:
@@ -426,7 +432,7 @@ class Input(unittest.TestCase):
                         said_root = json.loads((out or b"").split(b"\n")[0])["projectRoot"]
                         self.assertEqual(said_root, root)
                 globs = [*words, "--without", "src/*"]
-                self.assertEqual(self.called(prepare, dumped(*rows), *globs)[0], 2 * (root is None))
+                self.assertEqual(self.called(dumped(*rows), *globs)[0], 2 * (root is None))
         span = vertex(
             3, "range", start={"line": 0, "character": 3}, end={"line": 0, "character": 4}
         )
@@ -440,7 +446,7 @@ class Input(unittest.TestCase):
             words = ["--source", folder]
             for rows, more in ((of_source, words), (of_call, [*words, "--root", "file:///w"])):
                 body = dumped(*rows, edge(4, "contains", 2, [3]))
-                status, out, said = self.called(prepare, body, *more)
+                status, out, said = self.called(body, *more)
                 self.assertEqual(status, 0, said)
                 self.assertIn(b'"start":{"line":0,"character":2}', out or b"")
 
@@ -467,7 +473,7 @@ class Input(unittest.TestCase):
             with self.subTest(own):
                 body = "".join(line + "\r\n" for line in lines)
                 body = body.replace("OWN", own).replace("OTHER", other)
-                status, out, said = self.called(prepare, body.encode())
+                status, out, said = self.called(body.encode())
                 self.assertEqual((status, fault(out or b"", "1")), (0, None), said)
                 self.assertEqual((out or b"").count(b"\r\n"), len(lines))
                 rows = [json.loads(row) for row in (out or b"").splitlines()]
@@ -501,7 +507,7 @@ class Input(unittest.TestCase):
                     rows[-4 if "identifier" in members or "scheme" in members else -3].update(
                         members
                     )
-                status, out, said = self.called(prepare, dumped(*rows))
+                status, out, said = self.called(dumped(*rows))
                 self.assertEqual((status, fault(out or b"", "1")), (0, None), said)
                 found = [json.loads(row) for row in (out or b"").splitlines()]
                 kinds = [row["kind"] for row in found if "kind" in row]
@@ -542,13 +548,13 @@ class Input(unittest.TestCase):
             with tempfile.NamedTemporaryFile() as file, redirect_stdout(io.StringIO()) as out:
                 file.write(body)
                 file.flush()
-                self.assertEqual(why.main([file.name, "a.ts", "3", "1"]), 0)
+                self.assertEqual(WHY.main([file.name, "a.ts", "3", "1"]), 0)
                 self.assertIn("answer: 1 place of this dump", out.getvalue())
         for body in (b"", b"\xff", b"[", gzip.compress(plain)[:-9]):
             with tempfile.NamedTemporaryFile() as file, redirect_stderr(io.StringIO()) as said:
                 file.write(body)
                 file.flush()
-                self.assertEqual(why.main([file.name, "a.ts", "3", "1"]), 2)
+                self.assertEqual(WHY.main([file.name, "a.ts", "3", "1"]), 2)
                 self.assertEqual(said.getvalue().count("\n"), 1)
 
 

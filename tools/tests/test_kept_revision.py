@@ -14,13 +14,14 @@ from unittest import mock
 
 from codenav.asking.project import Project
 from codenav.cli.ask import ASK
-from codenav.client import upload
+from codenav.cli.prepare import PREPARE
+from codenav.cli.publish import PUBLISH
+from codenav.cli.upload import UPLOAD
 from codenav.client.fetch import Fetcher, fetch_from
-from codenav.dumps.prepare import prepare
 from codenav.faults import NoReply
-from codenav.publishing import publish
 from codenav.records import Prepared, new_record
-from codenav.sets.publish.publish import Publish, Store, remove_set
+from codenav.sets.publish.publish import Publish, remove_set
+from codenav.sets.publish.store import Store
 from codenav.settings.found import Settings
 from codenav.texts.places import Place
 from codenav.texts.today import Today
@@ -70,14 +71,14 @@ class Crates(Served, OnServer, InRepository):
     def published(self, name: str, *words: str) -> None:
         """Publishes a crate's checkout."""
         call = ["--no-tags", "--program", self.program, "--dump", RAW[name], *words, self.url]
-        status, _, said = quietly(publish.main, *call, PROJECTS[name], f"{self.home}/{name}")
+        status, _, said = quietly(PUBLISH.main, *call, PROJECTS[name], f"{self.home}/{name}")
         self.assertEqual(status, 0, said)
 
     def uploaded(self, name: str) -> None:
         """Uploads a crate's dump without a record."""
         dump = os.path.join(self.home, f"{name}.lsif")
-        self.assertEqual(quietly(prepare.main, "--strip", RAW[name], dump)[0], 0)
-        self.assertEqual(quietly(upload_dump, self.url, PROJECTS[name], dump)[0], 0)
+        self.assertEqual(quietly(PREPARE.main, "--strip", RAW[name], dump)[0], 0)
+        self.assertEqual(quietly(UPLOAD.main, self.url, PROJECTS[name], dump)[0], 0)
 
     def change(self, name: str) -> None:
         """Adds two lines on top of a file."""
@@ -268,7 +269,7 @@ class Kept(Crates):
                     element["end"]["line"] += number
                 out.write(json.dumps(element).encode() + b"\n")
         call = ["--no-tags", "--program", self.program, "--dump", dump, self.url, "temperature"]
-        self.assertEqual(quietly(publish.main, *call, self.top)[0], 0)
+        self.assertEqual(quietly(PUBLISH.main, *call, self.top)[0], 0)
 
 
 CLASSES = "".join(
@@ -290,7 +291,7 @@ class Names(Crates):
         with open(tags, "w", encoding="utf-8") as file:
             for line in 2, 7, 12:
                 file.write(f'run\tm.py\t/^    def run(self):$/;"\tm\tline:{line}\n')
-        self.assertEqual(quietly(upload_tags, self.url, "temperature", tags)[0], 0)
+        self.assertEqual(quietly(UPLOAD.main, self.url, "temperature", tags)[0], 0)
 
     def names(self) -> tuple[list[str], str]:
         """The places that `ask names` prints, and what it says."""
@@ -403,7 +404,7 @@ class Switched(OnServer, InRepository):
         self.made += 1
         folder, commit = os.path.join(self.home, f"set{self.made}"), self.commits[number]
         if is_set:
-            split_into(folder, self.bodies[number], *(["--revision", commit] if is_kept else []))
+            split_into(folder, self.bodies[number], revision=commit if is_kept else "")
             Publish(Store(self.url), folder, in_place_of_project=True).run()
             return
         dump = f"{folder}.lsif"
@@ -411,7 +412,7 @@ class Switched(OnServer, InRepository):
             out.write(self.bodies[number])
         if is_kept:
             self.assertTrue(Prepared(dump).add(new_record(commit, ROOT)))
-        self.assertEqual(quietly(upload_dump, self.url, NAME, dump)[0], 0)
+        self.assertEqual(quietly(UPLOAD.main, self.url, NAME, dump)[0], 0)
         remove_set(Store(self.url), NAME)
 
     def putting(self, number: int, is_set: bool, is_kept: bool) -> Callable[[], None]:
@@ -497,16 +498,6 @@ class Asker:
     def is_of_none(self) -> bool:
         """Whether it's known, and was said, that the index is of no revision."""
         return bool(self.project.today.reason(NAME))
-
-
-def upload_tags(words: list[str]) -> int:
-    """Uploads tags."""
-    return upload.main("tags", words)
-
-
-def upload_dump(words: list[str]) -> int:
-    """Uploads a dump."""
-    return upload.main("lsif", words)
 
 
 if __name__ == "__main__":

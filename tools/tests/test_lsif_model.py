@@ -11,7 +11,7 @@ import tempfile
 import unittest
 from contextlib import redirect_stderr
 
-from codenav.dumps.prepare import prepare
+from codenav.cli.prepare import PREPARE
 from tests.accepted import fault
 from tests.dump_walks import LABELS, Element, Walk, answered, body_of, questions
 from tests.lsif_model import Model
@@ -19,7 +19,7 @@ from tests.randomly import check_cases
 from tests.raw_dumps import RawDump, arrays, renamed
 from tests.test_prepared import dumps
 
-LAYOUT = re.compile(r"line \d+|prepare-lsif: read: .*\n|/tmp/.*/in")
+LAYOUT = re.compile(r"line \d+|codenav prepare: read: .*\n|/tmp/.*/in")
 """What is said of a dump's layout."""
 
 PLACES = [{"line": line, "character": 4} for line in (0, 1, 2)]
@@ -32,7 +32,7 @@ def prepared(body: bytes) -> tuple[int, bytes, str]:
         with open(source, "wb") as file:
             file.write(body)
         with redirect_stderr(io.StringIO()) as said:
-            status = prepare.main([source, out])
+            status = PREPARE.main([source, out])
         with open(out if os.path.exists(out) else os.devnull, "rb") as file:
             return status, file.read(), said.getvalue()
 

@@ -44,7 +44,7 @@ SESSIONS = [["README.md", "docs/TOOLS.md"], ["docs/API.md"]]
 NEEDED = {"rust-analyzer": "rust-web-analyzer", "ctags": "universal-ctags", "curl": "curl"}
 # What an indexer writes of a crate depends on what else is installed, so how much it is isn't
 # compared.
-COUNTED = re.compile(r'^(?:prepare-lsif: |\{"accepted":"lsif")')
+COUNTED = re.compile(r'^(?:codenav prepare: |\{"accepted":"lsif")')
 SECONDS = 600
 # It compiles the whole program, which takes minutes; the gate runs the program that it built.
 COMPILES = "(cd crates/codenav && rt try "

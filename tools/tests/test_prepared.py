@@ -12,7 +12,7 @@ import unittest
 from contextlib import redirect_stderr, suppress
 from typing import Any, Optional
 
-from codenav.dumps.prepare import prepare
+from codenav.cli.prepare import PREPARE
 from tests.accepted import fault
 from tests.servers import TOP, built_program
 
@@ -130,7 +130,7 @@ class Mutated(unittest.TestCase):
                 file.write(body)
             said = io.StringIO()
             with redirect_stderr(said):
-                status = prepare.main([*words, source, out])
+                status = PREPARE.main([*words, source, out])
             left = os.listdir(folder)
             self.assertLessEqual(set(left), {"in", "out"})
             if not os.path.exists(out):

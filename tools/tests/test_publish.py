@@ -17,13 +17,15 @@ from unittest import mock
 
 from codenav import limits
 from codenav.cli.ask import ASK
+from codenav.cli.publish import PUBLISH, table
 from codenav.client.projects import listed
-from codenav.index.indexers import INDEXERS, is_scip
-from codenav.publishing import publish
-from codenav.publishing.left_out import Row, rows_of, table
+from codenav.dumps.dump import is_scip
+from codenav.index.indexers import INDEXERS
+from codenav.outcome import LEFT_OUT, MENDED, NO_EFFECT, ROWS, Note, Outcome
+from codenav.publishing.made import Row, rows_of
 from codenav.records import Prepared
 from codenav.sets.publish.publish import Publish as Made
-from codenav.sets.publish.publish import Store
+from codenav.sets.publish.store import Store
 from tests.repository import git_in
 from tests.servers import TOP, OnServer
 from tests.test_set_service import asked_at
@@ -69,7 +71,7 @@ class OnCheckout(OnServer):
     def published(self, *words: str, url: Optional[str] = None) -> tuple[int, list[str], str]:
         """The status, what was printed, and the stages, without the seconds that they took."""
         with redirect_stdout(io.StringIO()) as said, redirect_stderr(io.StringIO()) as warned:
-            status = publish.main([url or self.url, *words])
+            status = PUBLISH.main([url or self.url, *words])
         stages = re.sub(r" \([0-9.]+ s\)$", "", warned.getvalue(), flags=re.MULTILINE)
         return status, said.getvalue().splitlines(), stages
 
@@ -103,7 +105,7 @@ class Publish(OnCheckout):
             [stage for stage in names if stage != "mended"],
             [
                 "indexed by rust-analyzer lsif .",
-                "prepare-lsif",
+                "prepared",
                 "tags by ctags",
                 "checked lsif",
                 "checked tags",
@@ -139,17 +141,17 @@ class Publish(OnCheckout):
         status, said, stages = self.published(*call)
         self.assertEqual((status, "revision" in "".join(said)), (0, False))
         fault = "has changes that aren't committed, so the index is of no revision"
-        self.assertEqual(stages.splitlines()[0], f"publish: {self.checkout} {fault}")
+        self.assertEqual(stages.splitlines()[0], f"codenav publish: {self.checkout} {fault}")
         status, said, stages = self.published("--revision", "HEAD", *call)
         self.assertEqual((status, said[2]), (0, line))
         fault = "has files that differ from HEAD, of which the index is said to be"
-        self.assertEqual(stages.splitlines()[0], f"publish: {self.checkout} {fault}")
+        self.assertEqual(stages.splitlines()[0], f"codenav publish: {self.checkout} {fault}")
         status, said, stages = self.published("--revision", "none", *call)
-        line = f"publish: {self.checkout}: git knows no revision none\n"
+        line = f"codenav publish: {self.checkout}: git knows no revision none\n"
         self.assertEqual((status, said, stages), (2, [], line))
         shutil.rmtree(os.path.join(self.checkout, ".git"))
         status, said, stages = self.published("--revision", "HEAD", *call)
-        line = f"publish: {self.checkout}: not in a checkout of git, so HEAD can't be looked up\n"
+        line = f"codenav publish: {self.checkout}: not in a checkout of git, so HEAD can't be looked up\n"
         self.assertEqual((status, said, stages), (2, [], line))
 
     def test_the_record_of_a_revision(self) -> None:
@@ -174,14 +176,18 @@ class Publish(OnCheckout):
         self.assertEqual(status, 0)
         self.assertIn(f"the index is of revision {commit}, which it keeps", said)
         status, _, stages = self.published("--dump", dump, "--revision", "HEAD", *call)
-        fault = f"publish: the dump says itself that it's of revision {commit}, and not of HEAD"
+        fault = (
+            f"codenav publish: the dump says itself that it's of revision {commit}, and not of HEAD"
+        )
         self.assertEqual((status, stages.splitlines()[-1]), (2, fault))
 
     def test_a_checkout_that_changes_meanwhile(self) -> None:
         """Its index is of no revision, but where the call or the dump names one."""
         commit, kept = self.committed(), os.path.join(self.home, "kept")
-        meanwhile = f"publish: {self.checkout} changed meanwhile, so the index is of no revision"
-        differs = f"publish: {self.checkout} has files that differ from HEAD, of which the index is said to be"
+        meanwhile = (
+            f"codenav publish: {self.checkout} changed meanwhile, so the index is of no revision"
+        )
+        differs = f"codenav publish: {self.checkout} has files that differ from HEAD, of which the index is said to be"
         save = "echo >>src/lib.rs"
         empty = "git -c user.name=t -c user.email=t@t commit -q --allow-empty -m y"
         rows: list[tuple[list[str], str, str, str]] = [
@@ -214,6 +220,28 @@ class Publish(OnCheckout):
                 self.assertEqual(self.kept_revision(kept, "--set" in words), revision)
                 if words == rows[0][0] and not with_tags:
                     shutil.copy(os.path.join(kept, "dump.lsif"), self.home + "/old.lsif")
+
+    def test_json(self) -> None:
+        """What was done, for programs, is one line."""
+        commit = self.committed()
+        call = ["--json", "--dump", RAW, "app", self.checkout]
+        status, said, _ = self.published("--no-tags", *call)
+        self.assertEqual((status, len(said)), (0, 1))
+        found = json.loads(said[0])
+        self.assertEqual(
+            [found[name] for name in ("project", "set", "documents", "revision")],
+            ["app", None, "file:///src/tr/crate", commit],
+        )
+        (one,) = found["uploaded"]
+        self.assertEqual(
+            [one[name] for name in ("project", "part", "profile")], ["app", "lsif", "1"]
+        )
+        self.assertEqual([*found["left out"][0]], ["what", "count", "why"])
+        found = json.loads(self.published("--set", *call)[1][0])
+        counts = {"parts": 1, "kept": 0, "new": 1, "removed": 0}
+        self.assertEqual((found["uploaded"], found["set"]), ([], counts))
+        found = json.loads(self.published("--dry-run", *call)[1][0])
+        self.assertEqual((found["uploaded"], found["set"]), (None, None))
 
     def kept_revision(self, kept: str, is_set: bool) -> str:
         """The revision that the files in a folder keep."""
@@ -333,7 +361,7 @@ class Publish(OnCheckout):
         status, said, stages = self.published("app", other)
         self.assertEqual(
             (status, said, stages.splitlines()[-1], listed(self.url)),
-            (2, [], f"publish: {os.path.realpath(other)}: {nothing}", []),
+            (2, [], f"codenav publish: {os.path.realpath(other)}: {nothing}", []),
         )
         with open(os.path.join(other, "main.c"), "w", encoding="utf-8") as file:
             file.write("int main(void) { return 0; }\n")
@@ -464,20 +492,20 @@ class Publish(OnCheckout):
             missing[::2],
             (
                 2,
-                f"publish: {self.checkout}: rust-analyzer would index this, and isn't on the path\n",
+                f"codenav publish: {self.checkout}: rust-analyzer would index this, and isn't on the path\n",
             ),
         )
         for words, url, said in (
             (
                 ["app", self.checkout],
                 "http://127.0.0.1:1",
-                "publish: http://127.0.0.1:1: Connection refused\n",
+                "codenav publish: http://127.0.0.1:1: Connection refused\n",
             ),
-            (["app", "/no/folder"], self.url, "publish: /no/folder: not a folder\n"),
+            (["app", "/no/folder"], self.url, "codenav publish: /no/folder: not a folder\n"),
             (
                 ["A b"],
                 self.url,
-                "publish: a project is 1 to 64 characters of a-z 0-9 _ -, not 'A b'\n",
+                "codenav publish: a project is 1 to 64 characters of a-z 0-9 _ -, not 'A b'\n",
             ),
         ):
             with mock.patch("time.sleep"):
@@ -486,23 +514,26 @@ class Publish(OnCheckout):
 
 class Parts(unittest.TestCase):
     def test_what_was_left_out(self) -> None:
-        lines = [
-            "version 0.5.0 -> 0.6.0; equal ranges merged 39 of 3922; elements 17996 -> 17907",
-            "left out: crossing range: 2, the first at line 7",
-            "no effect: vertex foldingRangeResult, 15",
-            "documents 2; symbols 10; occurrences 21, of which 1 at a place that has a range already, 3 left out for they overlap another; elements 164",
-            "rows: 1 documents",
-        ]
-        rows = list(rows_of(lines, "1"))
+        of_lsif = Outcome(
+            counts={"equal ranges": 39, "ranges": 3922},
+            notes=(
+                Note(MENDED, "a range", 1, "line 2"),
+                Note(LEFT_OUT, "crossing range", 2, "line 7"),
+                Note(NO_EFFECT, "vertex foldingRangeResult", 15),
+                Note(ROWS, "1 documents"),
+            ),
+        )
+        rows = list(rows_of(of_lsif, "1"))
         self.assertEqual(
             rows,
             [
                 Row("ranges", 39, "equal to another of their document"),
                 Row("crossing range", 2, "a flaw, the first at line 7"),
                 Row("vertex foldingRangeResult", 15, "no effect in profile 1"),
-                Row("occurrences", 3, "overlap another"),
             ],
         )
+        of_scip = Outcome(counts={"occurrences": 21, "crossed": 3, "merged": 1})
+        self.assertEqual(list(rows_of(of_scip, "1")), [Row("occurrences", 3, "overlap another")])
         self.assertEqual(
             table(rows[:2]),
             [

@@ -14,15 +14,18 @@ from threading import Thread
 from typing import Any, Callable, Iterator
 from unittest import mock
 
+from codenav.cli.publish import PUBLISH
+from codenav.cli.rebalance import REBALANCE
 from codenav.faults import NoReply
 from codenav.program import free_port
-from codenav.publishing import publish
-from codenav.sets.manifest import MANIFEST, PartEntry
-from codenav.sets.publish import rebalance
+from codenav.sets.files import MANIFEST
+from codenav.sets.manifest import PartEntry
+from codenav.sets.publish import relocation
+from codenav.sets.publish.claim import claimed
 from codenav.sets.publish.places import Place
-from codenav.sets.publish.publish import Store, claimed
-from codenav.sets.publish.spread import Made, keep_surface
+from codenav.sets.publish.store import Store
 from codenav.sets.ring import home_of
+from codenav.sets.surface.made import SurfaceFiles, keep_surface
 from tests.fronts import adding, host_of
 from tests.servers import TOP
 from tests.test_set_service import answer_of, asked_at
@@ -69,7 +72,7 @@ class Moved(TwoSets):
         shutil.rmtree(own, ignore_errors=True)
         shutil.copytree(folder, os.path.join(own, "set"))
         parts, packages = self.surface_in(folder)
-        keep_surface(os.path.join(own, "set"), Made(parts, packages))
+        keep_surface(os.path.join(own, "set"), SurfaceFiles(parts, packages))
 
     def surface_in(self, folder: str) -> tuple[tuple[PartEntry, ...], tuple[str, ...]]:
         """The surface that was made in a folder."""
@@ -84,10 +87,12 @@ class Moved(TwoSets):
 
     def rebalance(self, servers: list[str], *words: str) -> tuple[int, list[str], list[str]]:
         """The status of a call, the lines that it prints, and those of faults."""
-        call = ["--rebalance", self.kept, "--servers", ",".join(servers), "--grace", "0", *words]
+        call = ["--servers", ",".join(servers), "--grace", "0", *words]
         with redirect_stdout(io.StringIO()) as said, redirect_stderr(io.StringIO()) as warned:
-            status = publish.main([*call, self.front.url])
-        lines = [line.removeprefix("publish: ") for line in warned.getvalue().splitlines()]
+            status = REBALANCE.main([*call, self.front.url, self.kept])
+        lines = [
+            line.removeprefix("codenav rebalance: ") for line in warned.getvalue().splitlines()
+        ]
         return status, said.getvalue().splitlines(), [x for x in lines if not x.startswith(STAGES)]
 
     def publish(self, name: str, servers: list[str], *more: str) -> tuple[int, list[str]]:
@@ -95,8 +100,8 @@ class Moved(TwoSets):
         dump = os.path.join(TOP, "demo", "crate.raw.lsif")
         words = ["--no-tags", "--dump", dump, "--servers", ",".join(servers), *more]
         with redirect_stdout(io.StringIO()), redirect_stderr(io.StringIO()) as warned:
-            status = publish.main([*words, self.front.url, name, self.folder])
-        lines = [line.removeprefix("publish: ") for line in warned.getvalue().splitlines()]
+            status = PUBLISH.main([*words, self.front.url, name, self.folder])
+        lines = [line.removeprefix("codenav publish: ") for line in warned.getvalue().splitlines()]
         return status, [line for line in lines if line.startswith("http")]
 
     def done(self, servers: list[str], *words: str) -> list[str]:
@@ -304,7 +309,7 @@ def changing(at: int, stop: Callable[[], None]) -> Any:
                 stop()
             super().change(method, path, parameters, body)
 
-    return mock.patch.object(rebalance, "Place", Stops)
+    return mock.patch.object(relocation, "Place", Stops)
 
 
 Break = Callable[["Refused"], Any]
@@ -385,14 +390,16 @@ ROWS: list[tuple[str, Break, list[str]]] = [
     ),
 ]
 WORDS: list[tuple[list[str], str]] = [
-    (["--rebalance", "{kept}", "{front}"], "--rebalance takes --servers, or .*"),
+    (["{front}", "{kept}"], "it takes --servers, or .*"),
+    (["{front}"], r"it takes \[URL\] FOLDER"),
+    (["{kept}", "--servers", "{all}"], "not the address of a server, as .*"),
     (
-        ["--rebalance", "{kept}", "--servers", "{all}", "{one}"],
-        "--rebalance asks the front which servers it asks: {one} is one of these",
+        ["--servers", "{all}", "{one}", "{kept}"],
+        "it asks the front which servers it asks: {one} is one of these",
     ),
-    (["--rebalance", "{kept}/no", "--servers", "{all}", "{front}"], "{kept}/no: not a folder"),
+    (["{front}", "{kept}/no", "--servers", "{all}"], "{kept}/no: not a folder"),
     (
-        ["--rebalance", "{kept}", "--servers", "{all}", "--switch", "exit 3", "{front}"],
+        ["--servers", "{all}", "--switch", "exit 3", "{front}", "{kept}"],
         "exit 3: ended with status 3; nothing was removed: call again",
     ),
 ]
@@ -444,10 +451,10 @@ class Refused(Moved):
         for words, line in WORDS:
             with self.subTest(words), redirect_stdout(io.StringIO()):
                 with redirect_stderr(io.StringIO()) as warned:
-                    status = publish.main([word.format(**values) for word in words])
-                faults = [
-                    x[9:] for x in warned.getvalue().splitlines() if not x[9:].startswith(STAGES)
-                ]
+                    status = REBALANCE.main([word.format(**values) for word in words])
+                lines = warned.getvalue().splitlines()
+                lines = [line.removeprefix("codenav rebalance: ") for line in lines]
+                faults = [line for line in lines if not line.startswith(STAGES)]
                 self.assertEqual((status, len(faults)), (2, 1), faults)
                 self.assertRegex(faults[0], f"^{line.format(**values)}$")
         self.assertEqual(self.answering(), 0)

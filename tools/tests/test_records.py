@@ -11,12 +11,13 @@ from typing import Any
 from unittest import mock
 
 from codenav import limits
-from codenav.dumps.check import why
-from codenav.dumps.prepare import prepare
+from codenav.cli.explain import WHY
+from codenav.cli.prepare import PREPARE
+from codenav.progress import Quiet
 from codenav.records import ADDRESS, Prepared, Record, new_record, record_in
-from codenav.sets.split import split
-from codenav.sets.surface import surface
+from codenav.sets.surface.surface import write_surface
 from tests.dump_walks import Question, Walk, answered
+from tests.split_files import split_file
 from tests.test_publish import RAW
 
 COMMIT = "0123456789abcdef" * 2 + "01234567"
@@ -36,7 +37,7 @@ class Records(unittest.TestCase):
     def setUp(self) -> None:
         self.folder = self.enterContext(tempfile.TemporaryDirectory())
         self.path = os.path.join(self.folder, "dump.lsif")
-        self.assertEqual(quietly(prepare.main, "--strip", RAW, self.path)[0], 0)
+        self.assertEqual(quietly(PREPARE.main, "--strip", RAW, self.path)[0], 0)
 
     def elements(self) -> list[dict[str, Any]]:
         """The elements of the dump."""
@@ -107,23 +108,22 @@ class Records(unittest.TestCase):
         """The record is prepared as it is, and splits and surfaces are those of the dump."""
         plain = os.path.join(self.folder, "plain")
         os.mkdir(plain)
-        words = ["--name", "app", "--jobs", "1", self.path]
-        self.assertEqual(quietly(split.main, *words, plain)[0], 0)
-        self.assertEqual(quietly(surface.main, self.path, f"{plain}.surface")[0], 0)
+        split_file(self.path, plain, "app")
+        write_surface(self.path, "1", f"{plain}.surface", Quiet())
         self.assertTrue(Prepared(self.path).add(RECORD))
         again = f"{self.path}.again"
-        status, said = quietly(prepare.main, "--strip", "--report", self.path, again)
+        status, said = quietly(PREPARE.main, "--strip", "--report", self.path, again)
         count = len(self.elements())
         self.assertIn(f"; elements {count} -> {count}\n", said)
         self.assertEqual(status, 0, said)
         self.assertEqual(Prepared(again).record, RECORD)
-        status, said = quietly(why.main, self.path, os.path.join("src", "lib.rs"), "18", "12")
+        status, said = quietly(WHY.main, self.path, os.path.join("src", "lib.rs"), "18", "12")
         self.assertEqual((status, said.splitlines()[-1]), (0, "answer: 1 place of this dump"))
-        status, said = quietly(why.main, "--request", "hover", self.path, ADDRESS, "1", "1")
+        status, said = quietly(WHY.main, "--request", "hover", self.path, ADDRESS, "1", "1")
         self.assertEqual(status, 0, said)
         parts = os.path.join(self.folder, "parts")
-        self.assertEqual(quietly(split.main, *words, parts)[0], 0)
-        self.assertEqual(quietly(surface.main, self.path, f"{parts}.surface")[0], 0)
+        split_file(self.path, parts, "app")
+        write_surface(self.path, "1", f"{parts}.surface", Quiet())
         with open(f"{plain}.surface", "rb") as one, open(f"{parts}.surface", "rb") as other:
             self.assertEqual(one.read(), other.read())
 

@@ -18,9 +18,8 @@ needs("google.protobuf", "python3-protobuf")
 from google.protobuf import json_format
 
 from codenav.cli.ask import ASK
-from codenav.client import upload
-from codenav.dumps.prepare import prepare
-from codenav.dumps.scip import to_lsif as scip_to_lsif
+from codenav.cli.prepare import PREPARE
+from codenav.cli.upload import UPLOAD
 from codenav.dumps.scip.scip_pb2 import Index
 from codenav.program import Program
 from tests.accepted import fault
@@ -54,10 +53,10 @@ def prepared(sample: Sample, folder: str) -> tuple[int, str, str]:
         index = os.path.join(folder, "index.scip")
         with open(source, encoding="utf-8") as text, open(index, "wb") as file:
             file.write(json_format.ParseDict(json.load(text), Index()).SerializeToString())
-        status, _, said = called(scip_to_lsif, [*words, index, out])
+        status, _, said = called(PREPARE, [*words, index, out])
     else:
         dump = next(name for name in os.listdir(home) if name.startswith("dump."))
-        status, _, said = called(prepare, [*words, os.path.join(home, dump), out])
+        status, _, said = called(PREPARE, [*words, os.path.join(home, dump), out])
     return status, out, said
 
 
@@ -87,7 +86,7 @@ class Samples(unittest.TestCase):
                 for sample in group:
                     out = self.accept(sample, folder)
                     words = ["--profile", "2", url, project_of(sample), out]
-                    self.assertEqual(called(upload, words, "lsif")[0], 0, sample["sample"])
+                    self.assertEqual(called(UPLOAD, words)[0], 0, sample["sample"])
                 for sample in group:
                     for question in sample["questions"]:
                         with self.subTest(sample["sample"], **question):

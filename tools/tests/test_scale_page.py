@@ -13,7 +13,7 @@ from typing import Callable
 from unittest import mock
 
 from codenav.program import Program
-from codenav.sets.publish.publish import Store
+from codenav.sets.publish.store import Store
 from codenav.sets.ring import home_of
 from tests import fronts
 from tests.fronts import NOBODY, Front, fronted, host_of, lacking

@@ -15,10 +15,9 @@ from tests.packages import needs
 needs("google.protobuf", "python3-protobuf")
 
 from codenav import limits
-from codenav.dumps.check import why
-from codenav.dumps.check.explain import Dump
-from codenav.dumps.prepare import prepare
-from codenav.dumps.scip import to_lsif as scip_to_lsif
+from codenav.cli.prepare import PREPARE
+from codenav.dumps.check.followed import Graph
+from codenav.dumps.check.lines import Dump
 from codenav.dumps.scip.scip_pb2 import Index
 from tests.test_why import ANSWERS, TOP, found
 
@@ -136,7 +135,7 @@ A, B = "file:///work/app/src/shapes.ts", "file:///work/app/src/a%20b.ts"
 SHAPE, CIRCLE, SQUARE = [A, 0, 10, 0, 15], [A, 1, 6, 1, 12], [B, 2, 0, 3, 1]
 
 
-def place_list(graph: why.Graph) -> list[list[Any]]:
+def place_list(graph: Graph) -> list[list[Any]]:
     """The places of the ranges of a dump."""
     return [
         [place["uri"], *place["start"].values(), *place["end"].values()]
@@ -151,7 +150,7 @@ class Scip(unittest.TestCase):
             source, out = os.path.join(folder, "index.scip"), os.path.join(folder, "out.lsif")
             with open(source, "wb") as file:
                 file.write(index)
-            status = scip_to_lsif.main([*words, source, out])
+            status = PREPARE.main([*words, source, out])
             self.assertLessEqual(
                 {"index.scip"} | set(os.listdir(folder)), {"index.scip", "out.lsif"}
             )
@@ -160,7 +159,7 @@ class Scip(unittest.TestCase):
             with open(out, "rb") as file:
                 return status, file.read(), said.getvalue().replace(source, "INDEX")
 
-    def graph(self, index: bytes, *words: str) -> why.Graph:
+    def graph(self, index: bytes, *words: str) -> Graph:
         """The dump of an index, which is accepted and where `prepare-lsif` finds nothing to do."""
         status, body, said = self.converted(index, *words)
         self.assertEqual(status, 0, said)
@@ -168,7 +167,7 @@ class Scip(unittest.TestCase):
             source, out = os.path.join(folder, "in"), os.path.join(folder, "out")
             with open(source, "wb") as file:
                 file.write(body or b"")
-            self.assertEqual(prepare.main([source, out]), 0)
+            self.assertEqual(PREPARE.main([source, out]), 0)
             with open(out, "rb") as file:
                 self.assertEqual(file.read(), body)
         self.assertIn("equal ranges merged 0 of", prepared.getvalue())
@@ -180,7 +179,7 @@ class Scip(unittest.TestCase):
             self.assertEqual((element["id"], ends <= seen), (number, True), element)
             if element["type"] == "vertex":
                 seen.add(number)
-        return why.Graph(Dump("sample", body or b"", None))
+        return Graph(Dump("sample", body or b"", None))
 
     def test_the_answers_of_a_sample(self) -> None:
         graph = self.graph(SAMPLE)
@@ -257,7 +256,7 @@ class Scip(unittest.TestCase):
         )
         self.assertEqual(
             said,
-            "scip-to-lsif: documents 2; symbols 6; occurrences 11, of which 1 at a place that has a range already, "
+            "codenav prepare: documents 2; symbols 6; occurrences 11, of which 1 at a place that has a range already, "
             f"1 left out for they overlap another; elements {len(elements)}\n",
         )
 
@@ -389,7 +388,7 @@ class Scip(unittest.TestCase):
             "a.ts doesn't say what its characters count: give --encoding, which is the indexer's"
         )
         cases: list[tuple[bytes, list[str], Optional[str]]] = [
-            (b"", [], "INDEX: no SCIP index: it has no metadata"),
+            (document("a.ts"), [], "INDEX: no SCIP index: it has no metadata"),
             (
                 metadata(""),
                 [],
@@ -400,8 +399,8 @@ class Scip(unittest.TestCase):
                 [],
                 "INDEX: the index has no address of its root, but 'src': give --root, the folder that was indexed",
             ),
-            (b"hello", [], "INDEX: no SCIP index, or cut off, at byte 0"),
-            (b"\xff" * 30, [], "INDEX: no SCIP index, or cut off, at byte 0"),
+            (b"\nhello", [], "INDEX: no SCIP index, or cut off, at byte 0"),
+            (b"\x12" + b"\xff" * 30, [], "INDEX: no SCIP index, or cut off, at byte 0"),
             (one(field(2, b"\xff")), [], broken),
             (one(field(2, b"\x12\2a")), [], broken),
             (one(field(2, b"\x13")), [], broken),
@@ -436,17 +435,19 @@ class Scip(unittest.TestCase):
                 if message is None:
                     self.assertEqual((status, (body or b"").count(b"\n")), (0, 1), said)
                 else:
-                    self.assertEqual((status, body, said), (2, None, f"scip-to-lsif: {message}\n"))
+                    self.assertEqual(
+                        (status, body, said), (2, None, f"codenav prepare: {message}\n")
+                    )
         tool = metadata().replace(field(1, "scip-x"), field(1, "scip-java"))
         tool = field(1, field(2, field(1, "scip-java")) + field(3, "file:///a"))
         self.assertEqual(
             self.converted(tool + document("a.ts", encoding=0))[2],
-            "scip-to-lsif: a.ts doesn't say what its characters count: give --encoding utf-16, as scip-java counts\n",
+            "codenav prepare: a.ts doesn't say what its characters count: give --encoding utf-16, as scip-java counts\n",
         )
         with redirect_stderr(io.StringIO()) as warned:
             self.assertEqual(
-                (scip_to_lsif.main(["no/index", "out"]), warned.getvalue()),
-                (2, "scip-to-lsif: no/index: No such file or directory\n"),
+                (PREPARE.main(["no/index", "out"]), warned.getvalue()),
+                (2, "codenav prepare: no/index: No such file or directory\n"),
             )
 
     def test_what_is_left_out(self) -> None:
@@ -483,7 +484,7 @@ class Scip(unittest.TestCase):
                     found, out, said = self.converted(metadata() + body, *words)
                     self.assertEqual(found, status, said)
                     self.assertIn(f"left out: {kind}: 1, the first at {where}\n", said)
-                    graph = why.Graph(Dump("sample", out or b"", None))
+                    graph = Graph(Dump("sample", out or b"", None))
                     place = ["file:///work/app/a.ts", 9, 0, 9, 1]
                     self.assertEqual(place_list(graph), [place])
 
@@ -543,7 +544,7 @@ class Scip(unittest.TestCase):
             with mock.patch.object(limits, name, most):
                 status, body, text = self.converted(SAMPLE)
             self.assertEqual(
-                (status, body is None, text.count("over the limits: "), f"{said}: leave" in text),
+                (status, body is None, text.count("over the limits: "), f"{said}\n" in text),
                 (1, False, 1, True),
             )
 

@@ -13,7 +13,7 @@ from tests.packages import needs
 
 needs("google.protobuf", "python3-protobuf")
 
-from codenav.dumps.scip import to_lsif as scip_to_lsif
+from codenav.cli.prepare import PREPARE
 from codenav.dumps.scip.scip_pb2 import Index
 from tests.accepted import fault
 from tests.dump_walks import LABELS, Question, Walk, answered
@@ -146,7 +146,7 @@ class Answers(unittest.TestCase):
         with open(self.index, "wb") as out:
             out.write(index.SerializeToString())
         with redirect_stderr(io.StringIO()) as said:
-            status = scip_to_lsif.main(["--lenient", *words, self.index, self.dump])
+            status = PREPARE.main(["--lenient", *words, self.index, self.dump])
         self.assertEqual(status, 0, said.getvalue())
         with open(self.dump, "rb") as file:
             return file.read()

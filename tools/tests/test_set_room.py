@@ -13,8 +13,9 @@ from contextlib import redirect_stderr, redirect_stdout
 from typing import Any, Callable
 from unittest import mock
 
+from codenav.cli.upload import UPLOAD
 from codenav.client import http as client
-from codenav.sets.publish import publish
+from codenav.sets.publish.store import Store
 from tests.servers import NOT_BUILT, OnServer, built_program
 from tests.test_set_service import NAME, Revisions, revision, split_into
 
@@ -65,9 +66,9 @@ class NoRoom(OnServer):
         self.assertEqual(self.publish(self.both.folders[0])[0], 0)
 
     def publish(self, folder: str) -> tuple[int, str]:
-        """The status of a call of publish-set, and all that it prints."""
+        """The status of a call of upload, and all that it prints."""
         with redirect_stdout(io.StringIO()) as said, redirect_stderr(said):
-            status = publish.main([self.url, folder])
+            status = UPLOAD.main([self.url, folder])
         return status, said.getvalue()
 
     def check(self, give_room: Callable[[], None], fault: str) -> None:
@@ -75,14 +76,14 @@ class NoRoom(OnServer):
         both."""
         status, said = self.publish(self.next)
         self.assertEqual((status, said.count("\n")), (2, 1), said)
-        self.assertRegex(said, f"^publish-set: {fault} .*; the set {NAME} is as it was\n$")
+        self.assertRegex(said, f"^codenav upload: {fault} .*; the set {NAME} is as it was\n$")
         self.assertEqual(self.both.answering(self.url), 0)
-        self.assertEqual(len(publish.Store(self.url).projects()), 5)
+        self.assertEqual(len(Store(self.url).projects()), 5)
         give_room()
         said = "parts 2, kept 1, new 1, removed 2\n"
         self.assertEqual(self.publish(self.next), (0, said))
         self.assertEqual(self.both.answering(self.url), 1)
-        self.assertEqual(len(publish.Store(self.url).projects()), 4)
+        self.assertEqual(len(Store(self.url).projects()), 4)
 
 
 def give_back(pid: int, limits: tuple[int, int]) -> None:

@@ -12,17 +12,19 @@ from unittest import mock
 
 from codenav.asking.index import Index
 from codenav.cli.ask import ASK
+from codenav.cli.prepare import PREPARE
 from codenav.client import http as client
 from codenav.client.http import found_in, request
-from codenav.dumps.prepare import prepare
 from codenav.faults import BadCall, NoReply
 from codenav.sets.manifest import NotAManifest
-from codenav.sets.publish import publish
-from codenav.sets.publish.publish import Late, Publish, Store
-from codenav.sets.split import split
+from codenav.sets.publish import claim
+from codenav.sets.publish.claim import Late
+from codenav.sets.publish.publish import Publish
+from codenav.sets.publish.store import Store
 from codenav.texts.places import uri_of
 from tests.dump_walks import OF_PROFILE, Question, Walk, answered, questions
 from tests.servers import TOP, OnServer
+from tests.split_files import split_file
 from tests.test_lsp import Editor
 
 NAME = "code"
@@ -34,7 +36,7 @@ def revision(number: int) -> bytes:
     top."""
     with tempfile.TemporaryDirectory() as folder, redirect_stderr(io.StringIO()):
         path = os.path.join(folder, "dump")
-        prepare.main([os.path.join(TOP, "demo", "crate.raw.lsif"), path])
+        PREPARE.main([os.path.join(TOP, "demo", "crate.raw.lsif"), path])
         with open(path, "rb") as file:
             elements = [json.loads(line) for line in file]
     document = next(e["id"] for e in elements if str(e.get("uri")).endswith("/scale.rs"))
@@ -47,17 +49,12 @@ def revision(number: int) -> bytes:
     return b"".join(json.dumps(element).encode() + b"\n" for element in elements)
 
 
-def split_into(folder: str, body: bytes, *words: str, most: int = 200) -> None:
+def split_into(folder: str, body: bytes, name: str = NAME, most: int = 200, **options: Any) -> None:
     """Splits a dump into small parts in a folder."""
     path = os.path.join(os.path.dirname(folder), "whole.lsif")
     with open(path, "wb") as out:
         out.write(body)
-    said = io.StringIO()
-    with redirect_stderr(said):
-        status = split.main(
-            ["--jobs", "1", "--name", NAME, "--elements", str(most), *words, path, folder]
-        )
-    assert status == 0, said.getvalue()
+    split_file(path, folder, name, elements=most, **options)
 
 
 def asked_at(url: str, name: str) -> Index:
@@ -235,7 +232,7 @@ class Published(OnFile):
 
     def publish_after_break(self, folder: str) -> None:
         """Publishes where a claim of this very process may still be there."""
-        with mock.patch.object(publish, "is_alive", lambda record: False):
+        with mock.patch.object(claim, "is_alive", lambda record: False):
             self.publish(folder)
 
     def test_two_at_once(self) -> None:
@@ -340,11 +337,11 @@ class Published(OnFile):
         both = Revisions(self.folder)
         self.publish(both.folders[0])
         branch = os.path.join(self.folder, "branch")
-        split_into(branch, revision(1), "--name", f"{NAME}@old")
+        split_into(branch, revision(1), f"{NAME}@old")
         self.publish(branch)
         dump = os.path.join(self.folder, "user.lsif")
         with redirect_stderr(io.StringIO()):
-            prepare.main([os.path.join(TOP, "demo", "user.raw.lsif"), dump])
+            PREPARE.main([os.path.join(TOP, "demo", "user.raw.lsif"), dump])
         with open(dump, "rb") as file:
             Store(self.url).put("kettle", "lsif", file.read(), "k")
         place = Question("references", "file:///src/tr/user/src/lib.rs", (4, 24))

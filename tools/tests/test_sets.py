@@ -14,14 +14,15 @@ from typing import Any, Iterator, Optional
 from unittest import mock
 from urllib.parse import quote
 
-from codenav.dumps.prepare import prepare
+from codenav.cli.prepare import PREPARE
 from codenav.dumps.tables import graph
-from codenav.sets.split import crossing
-from codenav.sets.split import flat as flat_tables
-from codenav.sets.split import keys
+from codenav.progress import Quiet
+from codenav.sets.split import crossing, flattening, keys
 from codenav.sets.split.crossing import Cut, Shared
-from codenav.sets.split.flat import Flat, flattened
-from codenav.sets.split.part import Lines, Part
+from codenav.sets.split.flat import Flat
+from codenav.sets.split.flattening import flattened
+from codenav.sets.split.lines import Lines
+from codenav.sets.split.part import Part
 from tests.dump_walks import OF_PROFILE, Maker, Question, Walk, answered, body_of, questions
 from tests.servers import TOP, program
 
@@ -33,7 +34,7 @@ Bodies = dict[str, bytes]
 def flat_of(path: str, profile: str) -> Flat:
     """The flat tables of a dump's file."""
     with open(path, "rb") as source:
-        return flattened(graph.read_graph(source, path, profile, False, "split-lsif"))
+        return flattened(graph.read_graph(source, path, profile, Quiet()))
 
 
 def bodies_of(cut: Cut, path: str) -> list[bytes]:
@@ -217,7 +218,7 @@ class EqualAnswers(unittest.TestCase):
         """The dump of the demo crate, prepared, and every request at every range of it."""
         raw, path = os.path.join(TOP, "demo", "crate.raw.lsif"), os.path.join(self.folder, "crate")
         with redirect_stderr(io.StringIO()):
-            prepare.main([raw, path])
+            PREPARE.main([raw, path])
         with open(path, "rb") as file:
             walk = Walk([json.loads(line) for line in file], "1")
         return path, list(questions(walk, OF_PROFILE["1"]))
@@ -301,7 +302,7 @@ FAULTS: dict[str, tuple[Any, str, Any]] = {
     ),
     "what no range has isn't shown": (Part, "found_by_mark", lambda part: None),
     "results that results lead to are left out": (
-        flat_tables,
+        flattening,
         "reached_from",
         lambda graph, result, most: ([], False, 0),
     ),

@@ -1,18 +1,18 @@
-"""Tests of the call of split-lsif: what it refuses, which cuts it keeps, and what it writes."""
+"""Tests of splitting a dump: what is refused, which cuts it keeps, and what it writes."""
 
 import io
 import os
 import tempfile
 import unittest
-from contextlib import redirect_stderr
 from typing import Any
 from unittest import mock
 
-from codenav.dumps.check import why
-from codenav.sets import manifest
-from codenav.sets.split import flat, split
+from codenav.cli.explain import WHY
+from codenav.sets import files, manifest
+from codenav.sets.split import chains, flattening, split
 from tests.dump_walks import body_of
 from tests.hostile_dumps import SHAPES
+from tests.split_files import said_of_split
 
 Element = dict[str, Any]
 META = '{"id":0,"type":"vertex","label":"metaData","version":"0.6.0"}'
@@ -62,18 +62,16 @@ class Split(unittest.TestCase):
         self.out = os.path.join(self.folder, "code")
         self.path = os.path.join(self.folder, "dump.lsif")
 
-    def split(self, body: bytes, *words: str) -> tuple[int, str]:
-        """The status of a call, and what it says."""
+    def split(self, body: bytes, **options: Any) -> tuple[int, str]:
+        """0 where it's split and 2 where it's refused, and what is said."""
         with open(self.path, "wb") as file:
             file.write(body)
-        said = io.StringIO()
-        with redirect_stderr(said):
-            status = split.main(["--jobs", "1", *words, self.path, self.out])
-        return status, said.getvalue().replace(self.folder, "")
+        status, said = said_of_split(self.path, self.out, **options)
+        return status, said.replace(self.folder, "")
 
     def head(self) -> manifest.Head:
         """What the manifest says."""
-        return manifest.read_head(os.path.join(self.out, "manifest.tags"))
+        return files.read_head(os.path.join(self.out, "manifest.tags"))
 
     def firsts(self) -> list[str]:
         """The first document of each part."""
@@ -158,18 +156,18 @@ class Split(unittest.TestCase):
         self.assertEqual(self.split(body)[0], 0)
         self.assertEqual(self.head().name, "code")
         for name in ("x" * 48, "A", "a@b@c", "a/b"):
-            status, said = self.split(body, "--name", name)
+            status, said = self.split(body, name=name)
             self.assertEqual((status, said.count("\n")), (2, 1))
-        self.assertEqual(self.split(body, "--name", "code@old")[0], 0)
+        self.assertEqual(self.split(body, name="code@old")[0], 0)
         self.assertEqual(self.head().name, "code--old")
 
     def test_one_document_over_the_limit(self) -> None:
         """A document that is over the limit by itself is refused by name, or left out."""
         body = body_of(made({"file:///a": 10, "file:///b": 80, "file:///c": 10, "file:///d": 200}))
-        status, said = self.split(body, "--elements", "100")
+        status, said = self.split(body, elements=100)
         self.assertEqual(status, 2)
         self.assertIn("file:///d alone makes 200 elements", said)
-        status, said = self.split(body, "--elements", "100", "--lenient")
+        status, said = self.split(body, elements=100, is_lenient=True)
         self.assertEqual(status, 0)
         self.assertEqual(
             [uri in said for uri in ("left out: file:///b", "left out: file:///d")], [True, True]
@@ -180,19 +178,19 @@ class Split(unittest.TestCase):
         """A document that grows changes its own part alone, and one that comes goes to the part
         around it."""
         uris = {f"file:///{folder}/{file}": 20 for folder in "abcd" for file in range(6)}
-        self.assertEqual(self.split(body_of(made(uris, shared=False)), "--elements", "200")[0], 0)
+        self.assertEqual(self.split(body_of(made(uris, shared=False)), elements=200)[0], 0)
         before, firsts = set(self.head().projects()), self.firsts()
         self.assertGreater(len(before), 3)
         for more in ({"file:///b/3": 45}, {"file:///b/3x": 5}, {"file:///b/3": 60}):
             self.assertEqual(
-                self.split(body_of(made({**uris, **more}, shared=False)), "--elements", "200")[0], 0
+                self.split(body_of(made({**uris, **more}, shared=False)), elements=200)[0], 0
             )
             self.assertLessEqual(set(firsts), set(self.firsts()))
             self.assertLessEqual(len(before - set(self.head().projects())), 2)
             files = {file[:-5] for file in os.listdir(self.out) if file.endswith(".lsif")}
             self.assertEqual(files, set(self.head().projects()))
 
-    def files(self) -> dict[str, bytes]:
+    def written(self) -> dict[str, bytes]:
         """What was written, by the names of files."""
         found = {}
         for name in os.listdir(self.out):
@@ -204,11 +202,10 @@ class Split(unittest.TestCase):
         """The same files, byte for byte, by however many processes they're written."""
         uris = {f"file:///{folder}/{file}": 20 for folder in "abcd" for file in range(6)}
         body, found = body_of(made(uris)), []
-        for jobs in ("1", "2", "5", "40"):
-            self.out = os.path.join(self.folder, jobs)
-            words = ["--jobs", jobs, "--name", "code", "--elements", "200"]
-            self.assertEqual(self.split(body, *words)[0], 0)
-            found.append(self.files())
+        for jobs in (1, 2, 5, 40):
+            self.out = os.path.join(self.folder, str(jobs))
+            self.assertEqual(self.split(body, name="code", jobs=jobs, elements=200)[0], 0)
+            found.append(self.written())
         self.assertGreater(len(found[0]), 5)
         for other in found[1:]:
             self.assertEqual(found[0], other)
@@ -216,9 +213,9 @@ class Split(unittest.TestCase):
     def test_parts_are_half_full(self) -> None:
         """Where documents go, parts are joined, so that they are half full on average."""
         uris = {f"file:///{folder}/{file}": 20 for folder in "abcdef" for file in range(6)}
-        self.split(body_of(made(uris, shared=False)), "--elements", "300")
+        self.split(body_of(made(uris, shared=False)), elements=300)
         fewer = {uri: count for uri, count in uris.items() if uri[-1] in "03"}
-        self.split(body_of(made(fewer, shared=False)), "--elements", "300")
+        self.split(body_of(made(fewer, shared=False)), elements=300)
         elements = [part.elements for part in self.head().parts]
         self.assertGreaterEqual(sum(elements), 0.5 * 300 * (len(elements) - 1))
 
@@ -229,12 +226,12 @@ class Split(unittest.TestCase):
         with mock.patch.object(manifest, "MOST_LINES", 20), mock.patch.object(
             manifest, "LIST_LINES", 15
         ):
-            self.assertEqual(self.split(body_of(made(uris)), "--elements", "100")[0], 0)
+            self.assertEqual(self.split(body_of(made(uris)), elements=100)[0], 0)
         head = self.head()
         self.assertEqual(
             [one.first for one in head.lists], [f"file:///{n:03d}" for n in (0, 15, 30, 45)]
         )
-        documents = manifest.read_documents(os.path.join(self.out, "manifest.tags"), head)
+        documents = files.read_documents(os.path.join(self.out, "manifest.tags"), head)
         self.assertEqual([one.uri for one in documents], sorted(uris))
         self.assertEqual(
             [head.part_of(one.uri) for one in documents], [one.project for one in documents]
@@ -248,10 +245,10 @@ class Split(unittest.TestCase):
             file.write(b"text\n")
         where = f"file:///src={self.folder}"
         body = body_of(made({"file:///src/a": 1, "file:///src/b": 1}))
-        self.assertEqual(self.split(body, "--map", where, "--revision", "v1\\\t2")[0], 0)
+        self.assertEqual(self.split(body, maps=(where,), revision="v1\\\t2")[0], 0)
         head = self.head()
         self.assertEqual((head.revision, head.folder), ("v1\\\t2", where))
-        documents = manifest.read_documents(os.path.join(self.out, "manifest.tags"), head)
+        documents = files.read_documents(os.path.join(self.out, "manifest.tags"), head)
         self.assertEqual([one.text for one in documents], ["b9e68e1bea3e5b19", ""])
 
     def test_deep_references(self) -> None:
@@ -274,25 +271,25 @@ class Split(unittest.TestCase):
             )
         self.assertEqual(elements[6]["label"], "document")
         with mock.patch.object(
-            split, "flattened", lambda graph, without: flat.flattened(graph, without, 100)
+            split, "flattened", lambda graph, without: flattening.flattened(graph, without, 100)
         ):
             status, said = self.split(body_of(elements))
             self.assertEqual(status, 2)
             self.assertIn("over referenceResults; --lenient leaves some out", said)
-            status, said = self.split(body_of(elements), "--lenient")
+            status, said = self.split(body_of(elements), is_lenient=True)
             self.assertEqual(status, 0)
             self.assertRegex(said, "referenceResults too deep: [0-9]+ results have not all places")
 
     def test_hostile_shapes(self) -> None:
         """Dumps of shapes that could take long are split, or refused in one line, within few steps
         for each element."""
-        flattened = flat.flattened
+        flattened = flattening.flattened
         for name, (make, size, refusal) in SHAPES.items():
             with self.subTest(name), mock.patch.object(
                 split, "flattened", lambda graph, without: flattened(graph, without, 1000)
-            ), mock.patch.multiple(flat, MOST_STEPS=4000, MOST_MARKS=1000):
+            ), mock.patch.multiple(chains, MOST_STEPS=4000, MOST_MARKS=1000):
                 self.out = os.path.join(self.folder, str(len(os.listdir(self.folder))))
-                status, said = self.split(body_of([*make(size // 100)]), "--elements", "1000")
+                status, said = self.split(body_of([*make(size // 100)]), elements=1000)
                 refusal = refusal.replace("120000", "1200")
                 self.assertEqual((status, refusal in said), (2 if refusal else 0, True), said)
                 self.assertEqual((said.count("\n"), os.path.exists(self.out)), (1, not refusal))
@@ -302,7 +299,7 @@ class Split(unittest.TestCase):
         body = body_of(made({"file:///a": 2}))
         names = []
         for profile in ("1", "2"):
-            self.assertEqual(self.split(body, "--profile", profile)[0], 0)
+            self.assertEqual(self.split(body, profile=profile)[0], 0)
             names.append(self.head().projects())
         self.assertNotEqual(*names)
 
@@ -318,13 +315,13 @@ class Split(unittest.TestCase):
             b"z\ta\\x62\t1\n",
             b"z\tc\t1\n",
         ]
-        words = ["--elements", "120", "--map", f"file:///src={self.folder}"]
-        words += ["--tags", tags, "--tags-folder", self.folder]
+        options: dict[str, Any] = {"elements": 120, "maps": (f"file:///src={self.folder}",)}
+        options |= {"tags": tags, "tags_folder": self.folder}
         found = []
         for last in (lines[4], b"z\tc\t2\n"):
             with open(tags, "wb") as out:
                 out.writelines([*lines[:4], last])
-            self.assertEqual(self.split(body, *words)[0], 0)
+            self.assertEqual(self.split(body, **options)[0], 0)
             bodies = []
             for part in self.head().parts:
                 with open(os.path.join(self.out, f"{part.project}.tags"), "rb") as file:
@@ -336,8 +333,8 @@ class Split(unittest.TestCase):
 
     def test_why(self) -> None:
         """`why` takes the folder that a dump was split into."""
-        self.split(body_of(made({"file:///src/a": 30, "file:///src/b": 30})), "--elements", "120")
+        self.split(body_of(made({"file:///src/a": 30, "file:///src/b": 30})), elements=120)
         self.assertEqual(len(self.head().parts), 2)
         with mock.patch("sys.stdout", io.StringIO()) as said:
-            self.assertEqual(why.main([self.out, "src/b", "2", "1"]), 0)
+            self.assertEqual(WHY.main([self.out, "src/b", "2", "1"]), 0)
         self.assertIn("scheme 'codenav-set'", said.getvalue())

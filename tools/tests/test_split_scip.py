@@ -1,12 +1,9 @@
 """Tests of splitting a SCIP index: the parts are those of its dump, byte for byte, and memory
 doesn't grow with the occurrences."""
 
-import argparse
 import io
 import os
 import random
-import subprocess
-import sys
 import tempfile
 import tracemalloc
 import unittest
@@ -20,19 +17,24 @@ needs("google.protobuf", "python3-protobuf")
 
 from google.protobuf import json_format
 
-from codenav.dumps.scip import to_lsif as scip_to_lsif
+from codenav.cli.prepare import PREPARE
+from codenav.dumps.scip.messages import IndexFile
+from codenav.dumps.scip.options import ScipOptions
 from codenav.dumps.scip.scip_pb2 import Index
 from codenav.dumps.tables import disk_arrays as stored
 from codenav.dumps.tables import graph
 from codenav.dumps.tables import of_scip as scip_graph
-from codenav.sets.split import split
+from codenav.faults import NotADump
+from codenav.progress import Quiet
 from codenav.sets.split.crossing import Cut, Shared
-from codenav.sets.split.flat import Flat, flattened
+from codenav.sets.split.flat import Flat
+from codenav.sets.split.flattening import flattened
 from tests.dump_walks import answered
 from tests.random_scip import indexes
 from tests.randomly import check_cases
 from tests.scip_model import Model
 from tests.servers import TOP
+from tests.split_files import split_file, split_index
 from tests.test_samples import SAMPLES, groups
 from tests.test_scip import APP, DEFINITION, document, information, metadata, occurrence
 from tests.test_scip_answers import is_said, questions
@@ -49,10 +51,12 @@ def bodies(flat: Flat, hovers: str, profile: str) -> list[bytes]:
     return bodies_of(cut, hovers)
 
 
-def call_of(path: str, profile: str, *words: str) -> argparse.Namespace:
-    """The call that splits an index."""
-    call = split.words_parser().parse_args(["--profile", profile, *words, path, "nowhere"])
-    return call
+def options_of(*words: str) -> ScipOptions:
+    """How words of `prepare` have an index read."""
+    call = PREPARE.read([*words, "in", "out"])
+    return ScipOptions(
+        call.source, call.encoding, call.root, tuple(call.without), call.keep_file_ranges
+    )
 
 
 def repeated(symbols: int, documents: int) -> bytes:
@@ -101,13 +105,15 @@ class SplitIndex(unittest.TestCase):
 
     def flat(self, hovers: IO[bytes], profile: str, *words: str) -> Flat:
         """The flat tables of the index, without the dump."""
-        call = call_of(self.index, profile, *words)
-        return flattened(scip_graph.read_index(self.index, hovers, call, []))
+        with open(self.index, "rb") as file:
+            index = IndexFile(file, self.index)
+            made, _ = scip_graph.read_index(index, hovers, profile, options_of(*words), Quiet())
+        return flattened(made)
 
     def compare(self, what: object, *words: str) -> None:
         """Compares the parts of the index with those of its dump, in both profiles."""
         with redirect_stderr(io.StringIO()) as said:
-            status = scip_to_lsif.main(["--lenient", *words, self.index, self.dump])
+            status = PREPARE.main(["--lenient", *words, self.index, self.dump])
         self.assertEqual(status, 0, f"{what}: {said.getvalue()}")
         for profile in ("1", "2"):
             expected = bodies(flat_of(self.dump, profile), self.dump, profile)
@@ -146,22 +152,16 @@ class SplitIndex(unittest.TestCase):
                 count += 1
         self.assertGreater(count, 8)
 
-    def called(self, *words: str) -> tuple[int, str]:
-        """The status of split-lsif, and what it said."""
-        with redirect_stderr(io.StringIO()) as said:
-            status = split.main(["--jobs", "1", "--name", "code", *words])
-        return status, said.getvalue()
-
     def test_a_large_one(self) -> None:
         """Many documents by the tools' calls: the same files in both folders."""
         self.put(large(random.Random(1)))
         with redirect_stderr(io.StringIO()):
-            scip_to_lsif.main([self.index, self.dump])
+            PREPARE.main([self.index, self.dump])
         files: list[dict[str, bytes]] = []
-        for number, own in enumerate((self.dump, self.index)):
-            folder = os.path.join(self.folder, str(number))
-            status, said = self.called("--elements", "4000", own, folder)
-            self.assertEqual(status, 0, said)
+        folders = [os.path.join(self.folder, name) for name in ("of_dump", "of_index")]
+        split_file(self.dump, folders[0], "code", elements=4000)
+        split_index(self.index, folders[1], "code", elements=4000)
+        for folder in folders:
             files.append({})
             for name in os.listdir(folder):
                 with open(os.path.join(folder, name), "rb") as file:
@@ -185,34 +185,20 @@ class SplitIndex(unittest.TestCase):
         self.assertLess(peaks[1], 2 * peaks[0])
 
     def test_refused(self) -> None:
-        """A flaw makes the status 1 and is named, unless it's taken; what is no index is one line
-        with status 2."""
+        """A flaw is named; what is no index is refused."""
         out = os.path.join(self.folder, "out")
         self.put(metadata() + document("a.ts", occurrence([0, 5], APP + "a#")))
-        cases: list[tuple[list[str], int]] = [([], 1), (["--lenient"], 0)]
-        for words, expected in cases:
-            status, said = self.called(*words, self.index, out)
-            self.assertEqual(status, expected)
-            self.assertIn("split-lsif: left out: occurrence without a range: 1, the first at", said)
+        made = split_index(self.index, out, "code")
+        self.assertIn(
+            "left out: occurrence without a range: 1, the first at", "\n".join(made.lines())
+        )
+        self.assertEqual(
+            [made.reading.is_whole(lenient) for lenient in (False, True)], [False, True]
+        )
         self.put(metadata()[:-1])
-        status, said = self.called(self.index, os.path.join(self.folder, "none"))
-        self.assertEqual((status, said.count("\n")), (2, 1), said)
-        self.assertIn("no SCIP index, or cut off, at byte", said)
+        with self.assertRaisesRegex(NotADump, "no SCIP index, or cut off, at byte"):
+            split_index(self.index, os.path.join(self.folder, "none"), "code")
         self.assertFalse(os.path.exists(os.path.join(self.folder, "none")))
-
-    def test_standard_input(self) -> None:
-        """An index on the standard input."""
-        out = os.path.join(self.folder, "out")
-        tool = os.path.join(TOP, "tools", "split-lsif")
-        with open(INDEX, "rb") as file:
-            done = subprocess.run(
-                [sys.executable, tool, "--source", SOURCE, "-", out],
-                stdin=file,
-                capture_output=True,
-                check=False,
-            )
-        self.assertEqual(done.returncode, 0, done.stderr)
-        self.assertIn(b"in 1 parts", done.stderr)
 
 
 if __name__ == "__main__":

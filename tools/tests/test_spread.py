@@ -14,15 +14,19 @@ from typing import Any, Callable, Optional
 from unittest import mock
 
 from codenav.cli.ask import ASK
-from codenav.dumps.prepare import prepare
+from codenav.cli.prepare import PREPARE
+from codenav.cli.publish import PUBLISH
 from codenav.faults import NoReply
+from codenav.limits import MOST_ELEMENTS
 from codenav.program import Program, Running, free_port
-from codenav.publishing import publish
+from codenav.progress import Quiet
 from codenav.sets.manifest import PartEntry
-from codenav.sets.publish.publish import Claim, Late, Publish, Store, claimed, remove_set
-from codenav.sets.publish.spread import Spread, made_surface
+from codenav.sets.publish.claim import Claim, Late, claimed
+from codenav.sets.publish.publish import Publish, remove_set
+from codenav.sets.publish.spread import Spread
+from codenav.sets.publish.store import Store
 from codenav.sets.ring import home_of, shard_of
-from codenav.sets.split import split
+from codenav.sets.surface.made import made_surface
 from codenav.settings.found import FILE
 from codenav.texts.places import uri_of
 from tests.dump_walks import OF_PROFILE, Walk, answered, questions
@@ -38,7 +42,7 @@ def crate(name: str) -> bytes:
     """The dump of a crate of demo/, prepared."""
     with tempfile.TemporaryDirectory() as folder, redirect_stderr(io.StringIO()):
         path = os.path.join(folder, name)
-        prepare.main([os.path.join(TOP, "demo", f"{name}.raw.lsif"), path])
+        PREPARE.main([os.path.join(TOP, "demo", f"{name}.raw.lsif"), path])
         with open(path, "rb") as file:
             return file.read()
 
@@ -117,16 +121,16 @@ class OnServers(unittest.TestCase):
         folder."""
         folder = os.path.join(self.folder, where, name)
         os.makedirs(os.path.dirname(folder), exist_ok=True)
-        split_into(folder, body, "--name", name, most=most)
+        split_into(folder, body, name, most)
         self.make_surface(folder)
         return folder
 
-    def make_surface(self, folder: str) -> int:
-        """Makes the surface of the dump that was split into a folder; answers the number
-        of its parts."""
+    def make_surface(self, folder: str, most: int = MOST_ELEMENTS) -> int:
+        """Makes the surface of the dump that was split into a folder, in parts of so many elements
+        at most; answers the number of its parts."""
         whole = os.path.join(os.path.dirname(folder), "whole.lsif")
         name = os.path.basename(folder)
-        surface = made_surface(whole, name, "1", os.path.join(folder, "surface"))
+        surface = made_surface(whole, name, "1", os.path.join(folder, "surface"), Quiet(), most)
         with open(os.path.join(folder, "surface.json"), "w", encoding="utf-8") as out:
             json.dump(list(surface), out)
         return len(surface.parts)
@@ -236,9 +240,7 @@ class Published(TwoSets):
     def test_a_surface_in_parts(self) -> None:
         """A surface over the limits is published in parts, which lead to the same answers, and goes
         when one in one part comes."""
-        with mock.patch("codenav.limits.MOST_ELEMENTS", 100):
-            with mock.patch.object(split, "MOST_ELEMENTS", 100), redirect_stderr(io.StringIO()):
-                self.assertEqual(self.make_surface(self.folders[0]), 2)
+        self.assertEqual(self.make_surface(self.folders[0], 100), 2)
         self.spread(self.folders[0]).run()
         self.assertEqual((self.answering(), len(self.on(self.servers[2]))), (0, 3))
         self.spread(self.folders[1]).run()
@@ -337,7 +339,7 @@ class Called(OnServers):
         folder = os.path.join(self.folder, crate)
         os.makedirs(folder, exist_ok=True)
         call = ["--no-tags", "--dump", dump, *words, self.front.url, name, folder]
-        return self.call(publish.main, *call)
+        return self.call(PUBLISH.main, *call)
 
     def settings(self, text: str) -> None:
         """Writes the settings of the folder of a crate."""
@@ -406,7 +408,7 @@ class Called(OnServers):
         self.assertEqual([len(self.on(server)) for server in self.servers], [3, 0, 0])
         status, _, warned = self.publish(user, "user", *words)
         self.assertEqual(status, 0, warned)
-        line = f"publish: publish {code} again: it's joined to {user}, and its surface isn't at {self.servers[1]}"
+        line = f"codenav publish: publish {code} again: it's joined to {user}, and its surface isn't at {self.servers[1]}"
         self.assertIn(line, warned.splitlines())
         status, _, warned = self.publish(code, "crate", *words)
         self.assertEqual((status, "again" in warned), (0, False))
@@ -427,12 +429,12 @@ class Called(OnServers):
         ):
             status, said, warned = self.publish(own, "crate", "--servers", servers)
             self.assertEqual((status, said), (2, ""), warned)
-            self.assertRegex(warned.splitlines()[-1], f"^publish: .*{line}")
+            self.assertRegex(warned.splitlines()[-1], f"^codenav publish: .*{line}")
             left = {project for server in self.servers for project in self.on(server)}
             self.assertLessEqual(left, {f"{name}-claim"})
         status, _, warned = self.publish(name, "crate", "--servers-that-join")
         self.assertEqual((status, warned.count("\n")), (2, 1), warned)
-        self.assertRegex(warned, "^publish: --servers-that-join takes --servers")
+        self.assertRegex(warned, "^codenav publish: --servers-that-join takes --servers")
         self.settings("servers = [1, 2]\n")
         status, said, warned = self.publish(name, "user")
         self.assertEqual((status, warned.count("\n")), (2, 1), warned)

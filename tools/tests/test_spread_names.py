@@ -5,12 +5,14 @@ import os
 import tempfile
 import unittest
 from contextlib import redirect_stderr, redirect_stdout
+from typing import Any
 
 from codenav.asking.all_servers import names_of_all
 from codenav.cli.ask import ASK
 from codenav.client.fetch import fetch_from
 from codenav.program import Program, free_port
-from codenav.sets.publish.publish import Publish, Store
+from codenav.sets.publish.publish import Publish
+from codenav.sets.publish.store import Store
 from codenav.sets.ring import home_of
 from codenav.settings.found import FILE
 from tests.servers import program
@@ -86,8 +88,8 @@ class TwoServers(unittest.TestCase):
         with open(tags, "wb") as out:
             out.write(line("of_scale", "scale.rs", 4) + line("of_lib", "lib.rs", 2))
         folder = os.path.join(self.folder, code)
-        words = ["--name", code, "--tags", tags, "--map", "file:///src/tr/crate/src=/tags"]
-        split_into(folder, revision(0), *words, "--tags-folder", "/tags")
+        options: dict[str, Any] = {"tags": tags, "maps": ("file:///src/tr/crate/src=/tags",)}
+        split_into(folder, revision(0), code, tags_folder="/tags", **options)
         Publish(Store(self.servers[0]), folder).run()
         self.put(1, other, line("of_other", "x.c", 1))
         found = [(name, project) for name, project, _, _ in self.found(prefix="of_")]
@@ -148,8 +150,8 @@ class ByFront(OnServers):
             name = self.name_at(server, "code")
             folder = os.path.join(self.folder, "w", name)
             os.makedirs(os.path.dirname(folder), exist_ok=True)
-            words = ["--name", name, "--tags", tags, "--map", "file:///src/tr/crate/src=/tags"]
-            split_into(folder, crate("crate"), *words, "--tags-folder", "/tags", most=200)
+            options: dict[str, Any] = {"tags": tags, "maps": ("file:///src/tr/crate/src=/tags",)}
+            split_into(folder, crate("crate"), name, tags_folder="/tags", **options)
             self.make_surface(folder)
             self.spread(folder).run()
             found = asked_at(self.front.url, name).names({"prefix": "of_"}, False)

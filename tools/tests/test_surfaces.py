@@ -5,15 +5,19 @@ import io
 import json
 import os
 import random
+import re
 import tempfile
 import unittest
 from contextlib import redirect_stderr
 from typing import Any, Callable, Iterator
 from unittest import mock
 
-from codenav.dumps.prepare import prepare
+from codenav.cli.prepare import PREPARE
 from codenav.dumps.tables.graph import Graph
+from codenav.faults import NotADump
+from codenav.progress import Quiet
 from codenav.sets.surface import found, surface
+from codenav.sets.surface.surface import write_surface
 from tests.accepted import fault
 from tests.dump_walks import OF_PROFILE, Maker, Question, Walk, answered, body_of, questions
 from tests.servers import TOP
@@ -24,14 +28,12 @@ NAMES = ["apple", "pear", "quince"]
 SEEDS = range(40)
 
 
-def surface_of(body: bytes, profile: str, folder: str, *words: str) -> bytes:
+def surface_of(body: bytes, profile: str, folder: str) -> bytes:
     """The surface of a dump, which is within the limits."""
     path, out = os.path.join(folder, "whole"), os.path.join(folder, "surface")
     with open(path, "wb") as file:
         file.write(body)
-    with redirect_stderr(io.StringIO()) as said:
-        status = surface.main(["--profile", profile, *words, path, out])
-    assert status == 0, said.getvalue()
+    write_surface(path, profile, out, Quiet())
     with open(out, "rb") as file:
         return file.read()
 
@@ -135,7 +137,7 @@ def crates() -> Case:
     with tempfile.TemporaryDirectory() as folder, redirect_stderr(io.StringIO()):
         for name in ("crate", "user"):
             path = os.path.join(folder, name)
-            prepare.main([os.path.join(TOP, "demo", f"{name}.raw.lsif"), path])
+            PREPARE.main([os.path.join(TOP, "demo", f"{name}.raw.lsif"), path])
             with open(path, "rb") as file:
                 bodies[name] = file.read()
     return Case(bodies, dict.fromkeys(bodies, "1"), [["crate"], ["user"]])
@@ -285,32 +287,21 @@ def sound_leads(own: surface.Surface) -> None:
 WRITE_LEADS = surface.Surface.write_leads
 
 
-class Called(unittest.TestCase):
-    """The call of the tool."""
+class Written(unittest.TestCase):
+    """What is written of a file."""
 
     def setUp(self) -> None:
         self.folder = self.enterContext(tempfile.TemporaryDirectory())
-        self.out = os.path.join(self.folder, "out")
+        self.path, self.out = (os.path.join(self.folder, name) for name in ("in", "out"))
 
-    def call(self, body: bytes) -> tuple[int, str]:
-        """The status of a call, and what it says."""
-        path = os.path.join(self.folder, "in")
-        with open(path, "wb") as file:
+    def write(self, body: bytes) -> tuple[int, surface.Surface]:
+        """Writes the surface of a dump; answers how many elements that has, and the surface."""
+        with open(self.path, "wb") as file:
             file.write(body)
-        with redirect_stderr(io.StringIO()) as said:
-            return surface.main([path, self.out]), said.getvalue()
-
-    def test_over_the_limits(self) -> None:
-        """A surface over the limits is written, and that is said with status 1."""
-        body = body_of(Maker(random.Random(1), "1", ["file:///a"], 4).make())
-        with mock.patch("codenav.limits.MOST_ELEMENTS", 3):
-            status, said = self.call(body)
-        self.assertEqual(status, 1)
-        self.assertRegex(said, "over the limits: [0-9]+ elements, .*; split-lsif splits it")
-        self.assertTrue(os.path.exists(self.out))
+        return write_surface(self.path, "1", self.out, Quiet())
 
     def test_no_dump(self) -> None:
-        """What is no prepared dump is one line and status 2, and nothing is written."""
+        """What is no prepared dump is refused by a line, and nothing is written."""
         meta = b'{"id":0,"type":"vertex","label":"metaData","version":"0.6.0"}\n'
         for body, line in (
             (b"", "empty"),
@@ -318,17 +309,15 @@ class Called(unittest.TestCase):
             (meta.replace(b"0.6", b"0.4"), "line 1: of version 0.4.0"),
             (meta + b'{"id":0,"type":"vertex","label":"resultSet"}\n', "line 2: its id was used"),
         ):
-            status, said = self.call(body)
-            self.assertEqual((status, said.count("\n")), (2, 1), said)
-            self.assertIn(line, said)
+            with self.assertRaisesRegex(NotADump, re.escape(line)):
+                self.write(body)
             self.assertFalse(os.path.exists(self.out))
 
     def test_without_monikers(self) -> None:
         """A dump that others can't find has an empty surface."""
-        self.assertEqual(
-            self.call(b'{"id":0,"type":"vertex","label":"metaData","version":"0.6.0"}'),
-            (0, "surface-lsif: elements 1 -> 2\n"),
-        )
+        body = b'{"id":0,"type":"vertex","label":"metaData","version":"0.6.0"}'
+        elements, written = self.write(body)
+        self.assertEqual((elements, written.lines.count), (1, 2))
         with open(self.out, "rb") as file:
             self.assertEqual([json.loads(line)["label"] for line in file], ["metaData", "project"])
 

@@ -2,7 +2,6 @@
 that a call acts once however often it's sent."""
 
 import contextlib
-import functools
 import io
 import json
 import os
@@ -14,11 +13,11 @@ from typing import Callable
 from unittest import mock
 
 from codenav.cli.projects import LIST, REMOVE
-from codenav.client import upload
+from codenav.cli.upload import UPLOAD
 from codenav.client.http import address, found_in, request
 from codenav.program import Program
 from tests.repository import git_in
-from tests.servers import NOT_BUILT, TOP, OnServer, Relay, built_program
+from tests.servers import NOT_BUILT, OnServer, Relay, built_program, command
 from tests.test_explain import DOCUMENT, META, edge, vertex
 
 DUMP = """{"id":1,"type":"vertex","label":"metaData","version":"0.6.0"}
@@ -37,9 +36,6 @@ def called(main: Callable[[list[str]], int], *words: str) -> tuple[int, str, str
     with redirect_stdout(io.StringIO()) as said, redirect_stderr(io.StringIO()) as warned:
         status = main(list(words))
     return status, said.getvalue(), warned.getvalue()
-
-
-MAINS = {part: functools.partial(upload.main, part) for part in ("lsif", "tags")}
 
 
 class Uploads(OnServer):
@@ -66,7 +62,7 @@ class Uploads(OnServer):
             self.assertEqual(called(REMOVE.main, *words, url, "app"), (0, "app: removed\n", ""))
             return
         part = "tags" if call.endswith("tags") else "lsif"
-        status, said, _ = called(MAINS[part], *words, url, "app", self.files[call])
+        status, said, _ = called(UPLOAD.main, *words, url, "app", self.files[call])
         self.assertEqual((status, json.loads(said)["accepted"]), (0, part))
 
     def there(self, url: str = "") -> tuple[str, str]:
@@ -106,21 +102,22 @@ class Uploads(OnServer):
         git_in(self.folder, "add", "A", "B")
         git_in(self.folder, "commit", "-qm", "x")
         commit = git_in(self.folder, "rev-parse", "HEAD")
-        line = f"upload-lsif: the index is of revision {commit}: where files changed ask with --revision {commit}\n"
+        line = f"codenav upload: the index is of revision {commit}: where files changed ask with --revision {commit}\n"
         differ = (
-            "upload-lsif: . has files that differ from HEAD, of which the index is said to be\n"
+            "codenav upload: . has files that differ from HEAD, of which the index is said to be\n"
         )
-        none = f"upload-lsif: {os.path.realpath(self.folder)}: git knows no revision none\n"
+        none = f"codenav upload: {os.path.realpath(self.folder)}: git knows no revision none\n"
         for text, revision, name, wanted in (
             (DUMP % "A", "HEAD", "A", (0, line)),
             ("", "HEAD", "B", (0, line + differ)),
-            ("", "HEAD", "A", (1, "")),
+            ("{", "HEAD", "A", (1, "")),
+            ("", "HEAD", "A", (2, "codenav upload: A: neither a dump nor a tags file\n")),
             ("", "none", "B", (2, none)),
         ):
             with self.subTest(revision, text=text), contextlib.chdir(self.folder):
                 self.written("A", text)
                 words = ["--revision", revision, self.url, "app", name]
-                status, _, warned = called(MAINS["lsif"], *words)
+                status, _, warned = called(UPLOAD.main, *words)
                 self.assertEqual((status, warned), wanted)
 
     def test_once_after_a_removal(self) -> None:
@@ -129,12 +126,9 @@ class Uploads(OnServer):
         self.make("A", "--once")
         self.assertEqual(self.there(), ("D01", ""))
 
-    def test_one_body_as_a_dump_and_as_tags(self) -> None:
-        """A key that is made of a body has its kind and its profile, so the one's reply isn't the
-        other's."""
+    def test_one_body_in_two_profiles(self) -> None:
+        """A key that is made of a body has its profile, so the one's reply isn't the other's."""
         self.make("A", "--once")
-        status, said, _ = called(MAINS["tags"], "--once", self.url, "app", self.files["A"])
-        self.assertEqual((status, json.loads(said)["fault"]), (1, "T04"))
         self.make("A", "--once", "--profile", "2")
         profile = found_in(request(address(self.url, "/projects/app/profile", {})), "profile")
         self.assertEqual(profile, 2)
@@ -158,8 +152,8 @@ class Uploads(OnServer):
 
     def test_an_answer_that_was_lost_without_a_retry(self) -> None:
         with Relay(self.url, 1) as relay:
-            said = called(MAINS["lsif"], relay.url, "app", self.files["A"])
-        cut = f"upload-lsif: {relay.url}: the connection was cut before all of the answer came\n"
+            said = called(UPLOAD.main, relay.url, "app", self.files["A"])
+        cut = f"codenav upload: {relay.url}: the connection was cut before all of the answer came\n"
         self.assertEqual((said, self.there()), ((2, "", cut), ("A", "")))
 
     def test_what_can_be_read_once(self) -> None:
@@ -168,8 +162,7 @@ class Uploads(OnServer):
             with self.subTest(path), Program(self.program).serve() as server:
                 url = server.url
                 with Relay(url, 1) as relay, open(self.files["A"], "rb") as file:
-                    tool = os.path.join(TOP, "tools", "upload-lsif")
-                    words = [tool, "--retry", relay.url, "app", path]
+                    words = [*command("upload"), "--retry", relay.url, "app", path]
                     subprocess.run(words, input=file.read(), capture_output=True, check=True)
                 self.assertEqual((self.there(url), relay.taken), (("A", ""), 2))
 
@@ -186,18 +179,18 @@ class Uploads(OnServer):
             lines.append(edge(3 + RING + own, "item", 3 + own, targets, **more))
         path = self.written("ring", "\n".join(lines))
         with Relay(self.url, 0) as relay:
-            status, said, warned = called(MAINS["lsif"], "--retry", relay.url, "app", path)
+            status, said, warned = called(UPLOAD.main, "--retry", relay.url, "app", path)
         self.assertEqual((status, json.loads(said)["fault"], relay.taken), (1, "S02", 1))
         self.assertRegex(
             warned,
-            r"^upload-lsif: over the limits: [0-9]+ pairs of referenceResults, the server takes 4000000 "
+            r"^codenav upload: over the limits: [0-9]+ pairs of referenceResults, the server takes 4000000 "
             r"\(S02\): it can't be accepted\n$",
         )
 
     def test_lists(self) -> None:
         self.make("Atags")
         for name in "zb":
-            self.assertEqual(called(MAINS["lsif"], self.url, name, self.files["A"])[0], 0)
+            self.assertEqual(called(UPLOAD.main, self.url, name, self.files["A"])[0], 0)
         self.assertEqual(called(LIST.main, self.url), (0, "app: tags\nb: dump\nz: dump\n", ""))
         status, said, _ = called(LIST.main, "--json", self.url)
         self.assertEqual(
@@ -226,7 +219,7 @@ class Uploads(OnServer):
 
     def test_the_address_of_the_environment(self) -> None:
         with mock.patch.dict(os.environ, {"CODENAV_URL": self.url}):
-            self.assertEqual(called(MAINS["lsif"], "--key", "k", "app", self.files["A"])[0], 0)
+            self.assertEqual(called(UPLOAD.main, "--key", "k", "app", self.files["A"])[0], 0)
             self.assertEqual(called(LIST.main)[:2], (0, "app: dump\n"))
             self.assertEqual(called(REMOVE.main, "--retry", "app")[0], 0)
             self.assertEqual(called(REMOVE.main, "http://127.0.0.1:1", "app")[0], 2)

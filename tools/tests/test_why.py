@@ -10,9 +10,12 @@ import unittest
 from contextlib import redirect_stderr, redirect_stdout, suppress
 from typing import Any, NamedTuple, Optional
 
-from codenav.dumps.check import why
-from codenav.dumps.check.explain import Dump
-from codenav.dumps.prepare import edges, prepare
+from codenav.cli.explain import WHY
+from codenav.cli.prepare import PREPARE
+from codenav.dumps.check import edges, why
+from codenav.dumps.check.followed import Graph
+from codenav.dumps.check.lines import Dump
+from codenav.kinds import BY_NAME
 from tests.accepted import Checker, is_id, key
 from tests.test_explain import BASE, META, edge, span, vertex
 from tests.test_prepared import dumps, lose, redirect, relabel, single, twist
@@ -139,12 +142,12 @@ CHAIN = [
 ]
 
 
-def graph_of(name: str) -> why.Graph:
+def graph_of(name: str) -> Graph:
     """A demo dump as the server takes it."""
     with tempfile.NamedTemporaryFile() as out, redirect_stderr(io.StringIO()):
-        prepare.main([os.path.join(TOP, "demo", name), out.name])
+        PREPARE.main([os.path.join(TOP, "demo", name), out.name])
         with open(out.name, "rb") as file:
-            return why.Graph(Dump(name, file.read(), None))
+            return Graph(Dump(name, file.read(), None))
 
 
 def short(places: list[dict[str, Any]]) -> list[Any]:
@@ -158,9 +161,9 @@ def short(places: list[dict[str, Any]]) -> list[Any]:
     ]
 
 
-def found(graph: why.Graph, request: str, uri: str, line: int, character: int) -> list[Any]:
+def found(graph: Graph, request: str, uri: str, line: int, character: int) -> list[Any]:
     """What `why` finds: places, or the text of a hover."""
-    what = why.REQUESTS[request]
+    what = BY_NAME[request]
     trail = why.asked(
         [
             graph.trail(own, what)
@@ -363,7 +366,7 @@ class Why(unittest.TestCase):
         ), redirect_stderr(warned):
             file.write("\n".join(dump))
             file.flush()
-            status = why.main([file.name, *words])
+            status = WHY.main([file.name, *words])
         return status, said.getvalue(), warned.getvalue().replace(file.name, "DUMP")
 
     def test_small_dumps(self) -> None:
@@ -386,7 +389,7 @@ class Why(unittest.TestCase):
     def test_the_answers_of_a_server(self) -> None:
         with open(ANSWERS, encoding="utf-8") as file:
             answers = json.load(file)
-        graphs: dict[str, why.Graph] = {}
+        graphs: dict[str, Graph] = {}
         for name, request, uri, line, character, answer in answers:
             with self.subTest(name, request=request, line=line, character=character):
                 graph = graphs.get(name) or graphs.setdefault(name, graph_of(name))
@@ -463,7 +466,7 @@ class Why(unittest.TestCase):
                 (done[0], done[1].splitlines()[0].endswith(head), done[2]), (1, True, "")
             )
         else:
-            self.assertEqual(done, (2, "", f"why: {message}\n"))
+            self.assertEqual(done, (2, "", f"codenav why: {message}\n"))
 
     def test_columns_of_a_file_that_is_there(self) -> None:
         with tempfile.NamedTemporaryFile("w", encoding="utf-8", suffix=".ts") as file:
@@ -511,11 +514,11 @@ class Why(unittest.TestCase):
             ),
         ):
             with self.subTest(message):
-                self.assertEqual(self.said(dump, *words), (2, "", f"why: {message}\n"))
+                self.assertEqual(self.said(dump, *words), (2, "", f"codenav why: {message}\n"))
         with redirect_stderr(io.StringIO()) as said:
             self.assertEqual(
-                (why.main(["no/dump", "a.ts", "1", "1"]), said.getvalue()),
-                (2, "why: no/dump: No such file or directory\n"),
+                (WHY.main(["no/dump", "a.ts", "1", "1"]), said.getvalue()),
+                (2, "codenav why: no/dump: No such file or directory\n"),
             )
 
 

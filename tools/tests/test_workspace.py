@@ -12,8 +12,8 @@ from contextlib import redirect_stderr, redirect_stdout
 from typing import Any
 
 from codenav.asking.workspace import Workspace
-from codenav.client import upload
-from codenav.dumps.prepare import prepare
+from codenav.cli.prepare import PREPARE
+from codenav.cli.upload import UPLOAD
 from codenav.faults import BadCall
 from codenav.settings.found import FILE, Settings, settings_in
 from codenav.texts.decoded import text_of
@@ -179,8 +179,8 @@ class OnCheckouts(OnServer, InRepository):
             dump = os.path.join(self.home, f"{name}.lsif")
             raw = os.path.join(TOP, "demo", f"{name}.raw.lsif")
             with redirect_stdout(io.StringIO()), redirect_stderr(io.StringIO()):
-                self.assertEqual(prepare.main([raw, dump]), 0)
-                self.assertEqual(upload.main("lsif", [self.url, project, dump]), 0)
+                self.assertEqual(PREPARE.main([raw, dump]), 0)
+                self.assertEqual(UPLOAD.main([self.url, project, dump]), 0)
         for folder, _, names in os.walk(self.home):
             for name in names:
                 if name.endswith(".rs"):

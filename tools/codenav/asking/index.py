@@ -16,8 +16,9 @@ from typing import Any, Callable
 from codenav.addresses import serialized
 from codenav.client.fetch import Fetch
 from codenav.faults import NO_DOCUMENT, NO_DUMP, NoReply
+from codenav.names import BRANCH, shown_name
 from codenav.sets.known import Sets
-from codenav.sets.manifest import BRANCH, DOCUMENT, Head, shown_name
+from codenav.sets.manifest import DOCUMENT, Head
 
 Found = dict[str, Any]
 Shown = tuple[Any, set[str]]

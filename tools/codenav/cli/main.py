@@ -25,15 +25,15 @@ class Tool(NamedTuple):
 PACKAGES = {"google": "python3-protobuf"}
 TOOLS = {
     "publish": Tool(
-        "publishing.publish", "from a checkout to answers: index, prepare, check, upload"
+        "cli.publish",
+        "from a checkout to answers: index, prepare, check, upload",
+        command="PUBLISH",
     ),
-    "prepare-lsif": Tool("dumps.prepare.prepare", ""),
-    "scip-to-lsif": Tool("dumps.scip.to_lsif", ""),
-    "surface-lsif": Tool("sets.surface.surface", ""),
-    "split-lsif": Tool("sets.split.split", ""),
-    "publish-set": Tool("sets.publish.publish", ""),
-    "upload-lsif": Tool("client.upload", "", ("lsif",)),
-    "upload-tags": Tool("client.upload", "", ("tags",)),
+    "prepare": Tool(
+        "cli.prepare", "make a dump that the server takes of an indexer's", command="PREPARE"
+    ),
+    "upload": Tool("cli.upload", "upload dumps, tags files or a set", command="UPLOAD"),
+    "rebalance": Tool("cli.rebalance", "put kept sets where they belong", command="REBALANCE"),
     "list": Tool("cli.projects", "list the projects of a server", command="LIST"),
     "remove": Tool("cli.projects", "remove a project", command="REMOVE"),
     "ask": Tool("cli.ask", "ask what is at a place, or for a name", command="ASK"),
@@ -41,8 +41,10 @@ TOOLS = {
     "browse": Tool(
         "cli.browse", "show a folder's files as web pages with answers", command="BROWSE"
     ),
-    "explain-fault": Tool("dumps.check.explain", ""),
-    "why": Tool("dumps.check.why", "say of a dump why an answer is what it is"),
+    "why": Tool("cli.explain", "say of a dump why an answer is what it is", command="WHY"),
+    "explain": Tool(
+        "cli.explain", "say what is wrong with a dump that is refused", command="EXPLAIN"
+    ),
     "supervise": Tool("cli.service", "keep a server running over a folder", command="SUPERVISE"),
     "turn": Tool("cli.service", "start a service's server anew, losing no request", command="TURN"),
     "backup": Tool("cli.service", "copy a service's database while it runs", command="BACKUP"),

@@ -9,7 +9,8 @@ from codenav.names import PROJECT
 
 
 class Help(argparse.HelpFormatter):
-    """Lays out help as argparse does, but keeps paragraphs apart. argparse loads `shutil` at each
+    """Lays out help as argparse does, but keeps paragraphs apart, and those that are set in as they
+    are. argparse loads `shutil` at each
     argument for the width of the terminal; that takes longer than a question."""
 
     def __init__(self, prog: str) -> None:
@@ -21,7 +22,10 @@ class Help(argparse.HelpFormatter):
 
     def _fill_text(self, text: str, width: int, indent: str) -> str:
         fill = super()._fill_text
-        return "\n\n".join(fill(part, width, indent) for part in text.split("\n\n"))
+        return "\n\n".join(
+            part if part.startswith("  ") else fill(part, width, indent)
+            for part in text.split("\n\n")
+        )
 
 
 URL_HELP = (

@@ -45,6 +45,14 @@ class Shown:
                 else f"{self.what} ({seconds:.1f} s)"
             )
 
+    def __enter__(self) -> "Shown":
+        return self
+
+    def __exit__(self, *_: object) -> None:
+        """Takes the bar of a stage away that came to no end."""
+        if self.bar is not None:
+            self.bar.close()
+
     def warn(self, line: str) -> None:
         """Says a line at once."""
         print(f"{self.tool}: {line}", file=sys.stderr, flush=True)

@@ -25,7 +25,7 @@ def sorted_out(ranges: Sequence[int], place_of: Callable[[int], Place]) -> Outco
         if kept != own:
             equal[own] = kept
     places = sorted(first, key=lambda place: (place[0], -place[1]))
-    gone = set(crossed(places)) if any_crossing(places) else set()
+    gone = set(crossed(places)) if any(crossing(places)) else set()
     stay = [place for place in places if place not in gone]
     around = first[stay[0]] if stay and is_around(stay) else None
     return Outcome(equal, [first[place] for place in places if place in gone], around)
@@ -38,17 +38,24 @@ def is_around(places: Sequence[Place]) -> bool:
     return start == 0 and end >> 31 > 0 and end == max(place[1] for place in places)
 
 
-def any_crossing(places: Iterable[Place]) -> bool:
-    """Whether two of different places, in order, overlap and aren't nested."""
-    covering: list[int] = []
-    for start, end in places:
-        while covering and covering[-1] <= start:
+def crossing(places: Iterable[tuple[Any, Any]]) -> Iterator[tuple[int, int]]:
+    """Of places in order, by their starts and the larger first, the numbers of those that are equal,
+    or overlap and aren't nested: a pair for each place that must go so that none is left, which
+    comes second."""
+    covering: list[tuple[Any, int]] = []
+    before: tuple[Any, int] = None, 0
+    for number, place in enumerate(places):
+        start, end = place
+        while covering and covering[-1][0] <= start:
             covering.pop()
-        if covering and covering[-1] < end and start < end:
-            return True
-        if start < end:
-            covering.append(end)
-    return False
+        if place == before[0]:
+            yield before[1], number
+            continue
+        before = place, number
+        if covering and covering[-1][0] < end:
+            yield covering[-1][1], number
+        elif start < end:
+            covering.append((end, number))
 
 
 def size(place: Place) -> Place:

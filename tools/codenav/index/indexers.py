@@ -7,12 +7,10 @@ import time
 from typing import NamedTuple, Optional
 
 from codenav.faults import BadCall
-from codenav.progress import Stage
+from codenav.progress import Shows
 
 TAIL_LINES = 5
 POLL_SECONDS = 0.1
-FIELDS = (b"\x0a", b"\x12", b"\x1a")
-"""The tags of `metadata`, `documents` and `external_symbols`."""
 
 
 class Indexer(NamedTuple):
@@ -91,7 +89,7 @@ def tail_of(path: str) -> str:
     return " | ".join(lines[-TAIL_LINES:])
 
 
-def indexed(line: str, folder: str, project: str, work: str, stage: Stage) -> str:
+def indexed(line: str, folder: str, project: str, work: str, shows: Shows) -> str:
     """Calls an indexer in a checkout by a line of the shell; answers the file with what it wrote.
     Its own words stay in `index.log`."""
     out, printed, log = (
@@ -110,7 +108,7 @@ def indexed(line: str, folder: str, project: str, work: str, stage: Stage) -> st
         try:
             while run.poll() is None:
                 time.sleep(POLL_SECONDS)
-                stage.at(os.path.getsize(out if os.path.exists(out) else printed))
+                shows.at(os.path.getsize(out if os.path.exists(out) else printed))
         finally:
             if run.poll() is None:
                 run.terminate()
@@ -125,13 +123,3 @@ def indexed(line: str, folder: str, project: str, work: str, stage: Stage) -> st
     if os.path.getsize(path) == 0:
         raise BadCall(f"the indexer wrote nothing: {line}")
     return path
-
-
-def is_scip(path: str) -> bool:
-    """Whether a file is a SCIP index and no LSIF dump: its first byte is the tag of one of the fields
-    of an index, which come in any order, and no object or array follows."""
-    with open(path, "rb") as file:
-        head = file.read(4096)
-    text = head.lstrip()
-    is_json = text[:1] in (b"{", b"[") and text[1:].lstrip()[:1] in (b'"', b"{", b"[", b"}", b"")
-    return head[:1] in FIELDS and not is_json

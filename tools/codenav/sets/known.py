@@ -13,19 +13,17 @@ from typing import Iterator, Optional
 
 from codenav.client.fetch import Fetch
 from codenav.faults import NoReply
+from codenav.names import BRANCH, base_name, shown_name
 from codenav.sets.manifest import (
     ABOUT,
-    BRANCH,
     CLAIM,
     PART,
     PARTS,
     SURFACE,
     Head,
     NotAManifest,
-    base_name,
     head_of,
     mark_in,
-    shown_name,
 )
 
 BRIEF = 5.0

@@ -17,17 +17,12 @@ The file of each tag is the project that it names.
 """
 
 import hashlib
-import os
 import re
 from bisect import bisect_right
 from typing import Any, Iterable, Iterator, NamedTuple, Optional, Sequence
-from urllib.parse import quote
 
-from codenav.addresses import serialized
 from codenav.faults import BadCall
-from codenav.texts.places import KEPT, Maps, uri_of
 
-MANIFEST = "manifest.tags"
 FORMAT = "1"
 TOOL = "codenav-split-lsif-1"
 SORTED = "!_TAG_FILE_SORTED\t1\t/0=unsorted, 1=sorted/\n"
@@ -36,12 +31,10 @@ PACKAGE = f"{ABOUT}package"
 MOST_LINES = 99_000
 DIGITS = 16
 LIST_LINES = 20_000
-NAME = re.compile(r"[a-z0-9_-]{1,47}")
 PART = re.compile(r"(?P<set>[a-z0-9_-]{1,47})-[0-9a-f]{16}")
 PARTS = "-parts"
 CLAIM = "-claim"
 SURFACE = "-surface"
-BRANCH = "--"
 Tag = dict[str, Any]
 
 
@@ -121,26 +114,6 @@ def part_name(name: str, body: bytes, profile: str = "1", tags: bytes = b"") -> 
     digest = hashlib.sha256(b"" if profile == "1" else f"profile {profile}\n".encode())
     digest.update(body + tags)
     return f"{name}-{digest.hexdigest()[:DIGITS]}"
-
-
-def set_name(text: str) -> str:
-    """The name that a set has on the server: `NAME@BRANCH`, another revision beside the set NAME,
-    is `NAME--BRANCH` there. Raises BadCall."""
-    name = text.replace("@", BRANCH)
-    if text.count("@") > 1 or NAME.fullmatch(name) is None:
-        raise BadCall(f"a set is 1 to 47 characters of a-z 0-9 _ -, or NAME@BRANCH, not {text!r}")
-    return name
-
-
-def shown_name(name: str) -> str:
-    """The name of a set as its users write it."""
-    base, between, branch = name.partition(BRANCH)
-    return f"{base}@{branch}" if base and between and branch else name
-
-
-def base_name(name: str) -> str:
-    """The set that a set is another revision of, or its own name."""
-    return shown_name(name).partition("@")[0]
 
 
 def escaped(text: str) -> str:
@@ -286,55 +259,3 @@ def tag_of(line: str) -> Tag:
         "file": project,
         "fields": [(key, unescaped(value)) for key, _, value in pairs],
     }
-
-
-def tags_in(path: str) -> list[Tag]:
-    """The tags of a file that was written here; raises NotAManifest."""
-    try:
-        with open(path, encoding="utf-8", newline="\n") as file:
-            return [tag_of(line) for line in file if not line.startswith("!_TAG_")]
-    except ValueError:
-        raise NotAManifest(f"{path} isn't the manifest of a set") from None
-
-
-def read_head(path: str) -> Head:
-    """The head that a manifest's file has; raises NotAManifest."""
-    about = [tag for tag in tags_in(path) if tag["name"][:1] == ABOUT]
-    names = [tag["file"] for tag in about if tag["name"] == f"{ABOUT}set"]
-    head = head_of(about, f"{names[0] if names else ''}{PARTS}")
-    if head is None:
-        raise NotAManifest(f"{path} isn't the manifest of a set")
-    return head
-
-
-def with_head(path: str, head: Head) -> bytes:
-    """What a manifest's file has, with another head."""
-    with open(path, "rb") as file:
-        lines = [line.decode() for line in file if not line.startswith((b"!_TAG_", rb"\x02"))]
-    return tags_text([*head_lines(head), *lines])
-
-
-def read_documents(path: str, head: Head) -> list[DocumentEntry]:
-    """The documents that a manifest's file has, or the files of its lists beside it; raises
-    NotAManifest."""
-    folder = os.path.dirname(path)
-    paths = [os.path.join(folder, f"{one.project}.tags") for one in head.lists] or [path]
-    return [
-        DocumentEntry(tag["name"][1:], tag["file"], fields_of(tag).get("text", ""))
-        for own in paths
-        for tag in tags_in(own)
-        if tag["name"][:1] == DOCUMENT
-    ]
-
-
-def part_file(folder: str, file: str, maps: Maps) -> str:
-    """The dump of the part that has the document of a file, or the one document whose address is
-    `file` or ends with it; raises BadCall."""
-    path = os.path.join(folder, MANIFEST)
-    documents = read_documents(path, read_head(path))
-    uri, end = serialized(uri_of(file, maps)), "/" + quote(os.path.normpath(file), safe=KEPT)
-    own = [one for one in documents if one.uri == uri]
-    near = [one for one in documents if one.uri == file or one.uri.endswith(end)]
-    if len(own or near) != 1:
-        raise BadCall(f"{file} is {len(near)} of the {len(documents)} documents of {folder}")
-    return os.path.join(folder, f"{(own or near)[0].project}.lsif")

@@ -6,7 +6,7 @@ import os
 from typing import Any
 from urllib.parse import urlsplit
 
-from codenav.client.http import place_of
+from codenav.client.login import place_of
 from codenav.faults import BadCall
 from codenav.names import server_of
 from codenav.settings.found import FILE, found_in_file, given_server

@@ -5,10 +5,9 @@ import os
 from typing import Any, Iterator, NamedTuple, Optional
 
 from codenav.addresses import folder_address
-from codenav.client.http import named_by_call, named_by_file
+from codenav.client.login import named_by_call, named_by_file
 from codenav.faults import BadCall
-from codenav.names import project_of, server_of
-from codenav.sets.manifest import set_name
+from codenav.names import project_of, server_of, set_name
 from codenav.texts.decoded import body_of
 from codenav.texts.places import Maps, link_map
 from codenav.texts.sources import Source, sources_of

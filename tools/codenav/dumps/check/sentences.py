@@ -1,7 +1,8 @@
 """What an indexer should have written in place of a faulty element: one sentence for each code, or
 for each of its labels."""
 
-from codenav.dumps.lsif.reading import Element
+from codenav.dumps.lsif.elements import Element
+from codenav.kinds import KINDS
 
 CODES = {
     "L01": "a line has at most 1,048,576 bytes without its line feed: write an edge with so many targets as several edges, and cut a text that is so long.",
@@ -39,11 +40,10 @@ VERTICES = {
 JOINED = {
     "contains": "a project with documents, or a document with ranges",
     "next": "a range or a resultSet with a resultSet",
-    "textDocument/definition": "a range or a resultSet with a definitionResult",
-    "textDocument/references": "a range or a resultSet with a referenceResult",
-    "textDocument/hover": "a range or a resultSet with a hoverResult",
-    "textDocument/declaration": "a range or a resultSet with a declarationResult",
-    "textDocument/implementation": "a range or a resultSet with an implementationResult",
+    **{
+        kind.edge: f"a range or a resultSet with {'an' if kind.result[0] in 'aeiou' else 'a'} {kind.result}"
+        for kind in KINDS
+    },
     "moniker": "a range or a resultSet with a moniker",
     "packageInformation": "a moniker with a packageInformation",
     "attach": "a moniker with a moniker",

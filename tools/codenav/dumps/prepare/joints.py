@@ -10,12 +10,17 @@ nothing of the other heads, as it would from the joint result set.
 
 from typing import Iterator
 
+from codenav.dumps.prepare.labels import HOVER, RANGE, REFERENCE, RESULT_OF, RESULT_SET
 from codenav.dumps.prepare.names import Bearer, Groups, symbols
-from codenav.dumps.prepare.plan import AS_SET, DROPPED, KEPT, MOVED, NewEdge, Plan
-from codenav.dumps.prepare.survey import HOVER, NONE, RANGE, REFERENCE, RESULT_OF, RESULT_SET
+from codenav.dumps.prepare.numbers import NONE
+from codenav.dumps.prepare.plan import AS_SET, DROPPED, KEPT, MOVED, NewEdge, Options, Plan
 
-LISTED = ("textDocument/definition", "textDocument/declaration", "textDocument/implementation")
 REFERENCES, HOVERS = "textDocument/references", "textDocument/hover"
+
+
+def join_equal(plan: Plan, options: Options) -> None:
+    """Joins what several vertices mean where they're one. It needs all other passes."""
+    Joints(plan).make()
 
 
 class Joints:

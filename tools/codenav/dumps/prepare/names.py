@@ -10,8 +10,10 @@ from array import array
 from dataclasses import dataclass, field
 from typing import Iterable, Iterator, NamedTuple
 
+from codenav.dumps.prepare.labels import DOCUMENT, PROJECT, RANGE
+from codenav.dumps.prepare.numbers import NONE
 from codenav.dumps.prepare.plan import KEPT, Plan
-from codenav.dumps.prepare.survey import DOCUMENT, EXPORT, IMPORT, NONE, OF_PROJECT, PROJECT, RANGE
+from codenav.dumps.prepare.survey import EXPORT, IMPORT, OF_PROJECT
 
 SEVERAL, OUTSIDE = -2, -3
 """What stands for the project of what is in several, and in none."""

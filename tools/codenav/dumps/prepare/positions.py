@@ -2,22 +2,25 @@
 were indexed."""
 
 import os
-from typing import Optional
 from urllib.parse import unquote_to_bytes
 
 from codenav.addresses import below, folder_address
 from codenav.dumps.overlaps import by_home
-from codenav.dumps.prepare.plan import DROPPED, KEPT, Plan
-from codenav.dumps.prepare.survey import RANGE
+from codenav.dumps.prepare.labels import RANGE
+from codenav.dumps.prepare.plan import DROPPED, KEPT, Options, Plan
 from codenav.faults import BadCall, NotADump
-from codenav.texts.columns import COUNTED, ENCODINGS, Columns
+from codenav.texts.columns import COUNTED, ENCODINGS, UTF_16, Columns
 from codenav.texts.decoded import body_of
 
 
-def convert(plan: Plan, source: Optional[str]) -> None:
-    """Converts the places of all ranges; raises NotADump where the files aren't known."""
-    survey = plan.survey
+def convert_positions(plan: Plan, options: Options) -> None:
+    """Converts the places of all ranges, where they aren't UTF-16 code units; raises NotADump where
+    the files aren't known. It needs `contain`, and `leave_out_documents`, whose files aren't
+    read."""
+    survey, source = plan.survey, options.source
     encoding = ENCODINGS[survey.encoding]
+    if encoding == UTF_16:
+        return
     if source is None:
         raise NotADump(
             f"{survey.name}: its positions count {COUNTED[encoding]} ({survey.encoding}): give --source, the folder that was indexed"

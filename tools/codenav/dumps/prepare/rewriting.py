@@ -8,36 +8,29 @@ ends the call.
 
 from typing import Any, BinaryIO, Callable, Iterator, Optional
 
+from codenav.dumps.lsif.elements import Element, Id, Row, is_id, shard_of, targets_of
 from codenav.dumps.lsif.json_values import text_of
-from codenav.dumps.lsif.reading import Element, Id, Row, is_id, shard_of, targets_of
-from codenav.dumps.prepare.plan import (
-    AS_SET,
-    DROPPED,
-    FROM,
-    KEPT,
-    MOVED,
-    WRITTEN,
-    WRITTEN_AS_SET,
-    WRITTEN_FROM,
-    Plan,
-)
-from codenav.dumps.prepare.survey import (
+from codenav.dumps.prepare.labels import (
     DECLARATION,
     DEFINITION,
     DOCUMENT,
+    FROM,
     IMPLEMENTATION,
     LABELS,
-    NONE,
     OTHER,
     PROJECT,
     RANGE,
     REFERENCE,
     SINGLE,
 )
+from codenav.dumps.prepare.numbers import NONE
+from codenav.dumps.prepare.plan import AS_SET, DROPPED, KEPT, MOVED, Plan
 from codenav.dumps.prepare.vertices import Mender
 from codenav.faults import NotADump
 from codenav.limits import MOST_LINE_BYTES
 
+WRITTEN, WRITTEN_AS_SET = 4, 5
+"""What stands in the place of `KEPT` and `AS_SET` once a vertex is written."""
 ROLES = (None, "definitions", "references", "referenceResults")
 LISTED = (DEFINITION, DECLARATION, IMPLEMENTATION)
 PART_BYTES = 1 << 19
@@ -68,7 +61,7 @@ class Rewriting:
     def __init__(self, plan: Plan, mender: Mender, writer: Writer) -> None:
         self.plan, self.survey, self.mender, self.writer = plan, plan.survey, mender, writer
         self.notes = plan.notes
-        self.number, self.state = plan.survey.numbers.of, plan.state
+        self.number, self.state = plan.survey.numbers.of, bytearray(plan.state)
         self.kinds, self.home, self.moved = plan.kinds, plan.home, plan.moved
         self.renumbers = not plan.survey.are_ids_sound
         self.ids: list[Id] = (
@@ -230,7 +223,7 @@ class Rewriting:
         plan, state = self.plan, self.state
         if state[source] in (DROPPED, MOVED) or state[target] in (DROPPED, MOVED):
             return False
-        if state[source] < WRITTEN_FROM or state[target] < WRITTEN_FROM:
+        if state[source] < WRITTEN or state[target] < WRITTEN:
             raise self.changed(row)
         if not plan.fits(label, source, target):
             if label not in SINGLE:
@@ -281,7 +274,7 @@ class Rewriting:
         source = number[element["outV"]]
         if state[source] in (DROPPED, MOVED):
             return
-        if state[source] < WRITTEN_FROM:
+        if state[source] < WRITTEN:
             raise self.changed(row)
         given = element.get("property")
         role = self.role_of(self.kinds[source], given, row.line)
@@ -403,7 +396,7 @@ class Rewriting:
         owner = self.moved.get(source, source)
         if self.state[owner] == DROPPED or not kept:
             return
-        if any(self.state[end] < WRITTEN_FROM for end in (owner, *kept)):
+        if any(self.state[end] < WRITTEN for end in (owner, *kept)):
             raise self.changed(row)
         changes: Element = {}
         if self.ids[owner] != element["outV"]:
@@ -450,7 +443,7 @@ class Rewriting:
     def is_there(self, *numbers: int) -> bool:
         """Whether vertices were written."""
         count = self.plan.count
-        return all(number >= count or self.state[number] >= WRITTEN_FROM for number in numbers)
+        return all(number >= count or self.state[number] >= WRITTEN for number in numbers)
 
     def new_items(
         self, source: int, targets: list[int], role: Optional[str], shard: Optional[int]

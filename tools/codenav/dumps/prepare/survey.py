@@ -12,115 +12,31 @@ from itertools import pairwise
 from typing import Any, Iterator, Optional
 
 from codenav.addresses import folder_address
+from codenav.dumps.lsif.elements import Element, Id, Row, is_id, shard_of, span_of, targets_of
 from codenav.dumps.lsif.json_values import is_whole, text_of
-from codenav.dumps.lsif.reading import Element, Id, Row, is_id, shard_of, span_of, targets_of
+from codenav.dumps.prepare.labels import (
+    DEFINITION,
+    DOCUMENT,
+    MANY,
+    METADATA,
+    MONIKER,
+    NUMBERS,
+    OTHER,
+    PACKAGE,
+    PROPERTIES,
+    RANGE,
+    REFERENCE,
+    SINGLE,
+)
+from codenav.dumps.prepare.numbers import Numbers, Pairs
 from codenav.dumps.prepare.vertices import Mender, inline, is_path, without_text
 from codenav.faults import NotADump
-from codenav.notes import Notes
+from codenav.outcome import Notes
 from codenav.texts.columns import ENCODINGS
 
-NONE = -1
 IMPORT, EXPORT, OF_PROJECT = 1, 2, 4
 """What the first byte of a moniker's name says of it."""
-
-(
-    UNKNOWN,
-    OTHER,
-    METADATA,
-    PROJECT,
-    DOCUMENT,
-    RANGE,
-    RESULT_SET,
-    DEFINITION,
-    DECLARATION,
-    IMPLEMENTATION,
-    REFERENCE,
-    HOVER,
-    MONIKER,
-    PACKAGE,
-) = range(14)
-KINDS = {
-    "metaData": METADATA,
-    "project": PROJECT,
-    "document": DOCUMENT,
-    "range": RANGE,
-    "resultSet": RESULT_SET,
-    "definitionResult": DEFINITION,
-    "declarationResult": DECLARATION,
-    "implementationResult": IMPLEMENTATION,
-    "referenceResult": REFERENCE,
-    "hoverResult": HOVER,
-    "moniker": MONIKER,
-    "packageInformation": PACKAGE,
-}
-LABELS = {kind: label for label, kind in KINDS.items()}
-RESULT_OF = {
-    "textDocument/definition": DEFINITION,
-    "textDocument/declaration": DECLARATION,
-    "textDocument/implementation": IMPLEMENTATION,
-    "textDocument/references": REFERENCE,
-    "textDocument/hover": HOVER,
-}
-SINGLE = {"next": RESULT_SET, **RESULT_OF, "packageInformation": PACKAGE}
-MANY = {"moniker": MONIKER, "attach": MONIKER}
-PROPERTIES = {"definitions": 1, "references": 2, "referenceResults": 3, "declarations": 1}
 MOST_ID, MOST_ID_BYTES = 9007199254740991, 128
-BLOCK = 1 << 12
-
-
-@dataclass
-class Pairs:
-    """Edges of a label, one for each target: the numbers of both ends, and the edge's line."""
-
-    sources: "array[int]" = field(default_factory=lambda: array("i"))
-    targets: "array[int]" = field(default_factory=lambda: array("i"))
-    lines: "array[int]" = field(default_factory=lambda: array("i"))
-
-    def add(self, source: int, target: int, line: int) -> None:
-        """Adds an edge."""
-        self.sources.append(source)
-        self.targets.append(target)
-        self.lines.append(line)
-
-    def all(self) -> Iterator[tuple[int, int, int]]:
-        """The edges in their order."""
-        return zip(self.sources, self.targets, self.lines)
-
-
-class Numbers:
-    """The numbers of ids, and of each number what its vertex is: its line, and its place among the
-    elements, since several may be on a line. Arrays grow by blocks, and have room for at least each
-    number."""
-
-    def __init__(self) -> None:
-        self.of: dict[Id, int] = {}
-        self.kinds = bytearray()
-        self.lines, self.places = array("i"), array("i")
-        self.starts, self.ends = array("q"), array("q")
-        self.unseen: dict[int, int] = {}
-
-    def named(self, own: Id, line: int) -> int:
-        """The number of an id that an edge names on a line."""
-        number = self.of.get(own)
-        if number is None:
-            number = self.fresh(own)
-            self.unseen[number] = line
-        return number
-
-    def fresh(self, own: Id) -> int:
-        """A number for an id that has none."""
-        number = self.of[own] = len(self.of)
-        if number == len(self.kinds):
-            self.kinds.extend(bytes(BLOCK))
-            self.lines.extend([0] * BLOCK)
-            self.places.extend([0] * BLOCK)
-            self.starts.extend([0] * BLOCK)
-            self.ends.extend([0] * BLOCK)
-        return number
-
-    def ids(self) -> list[Id]:
-        """The id of each number."""
-        return list(self.of)
 
 
 @dataclass
@@ -188,7 +104,7 @@ class Survey:
         else:
             self.disorder = self.disorder or numbers.unseen[number]
             del numbers.unseen[number]
-        kind = KINDS.get(label, OTHER)
+        kind = NUMBERS.get(label, OTHER)
         numbers.kinds[number], numbers.lines[number] = kind, line
         numbers.places[number] = self.elements
         if kind == METADATA:

@@ -5,15 +5,18 @@ from array import array
 from itertools import chain
 from typing import Iterator
 
-from codenav.dumps.prepare.plan import DROPPED, KEPT, Plan
-from codenav.dumps.prepare.survey import DOCUMENT, METADATA, PROJECT, RANGE, SINGLE
+from codenav.dumps.prepare.labels import DOCUMENT, METADATA, PROJECT, RANGE, SINGLE
+from codenav.dumps.prepare.plan import DROPPED, KEPT, Options, Plan
 
 ROOTS = (METADATA, PROJECT, DOCUMENT, RANGE)
 LEADS = 3
 
 
-def drop_unreached(plan: Plan) -> None:
-    """Drops the vertices that only what was dropped led to."""
+def drop_unreached(plan: Plan, options: Options) -> None:
+    """Drops the vertices that only what was dropped led to, where documents were left out. It needs
+    all passes that drop documents or ranges for flaws."""
+    if not options.without:
+        return
     begins, targets = table(plan)
     reached = bytearray(plan.count)
     led_to = bytearray(plan.count)

@@ -5,9 +5,9 @@ from dataclasses import dataclass
 from typing import Any, Callable, Optional
 
 from codenav.addresses import address_of, folder_address, is_address, spelled
+from codenav.dumps.lsif.elements import Element, span_of
 from codenav.dumps.lsif.json_values import is_whole
-from codenav.dumps.lsif.reading import Element, span_of
-from codenav.notes import Notes
+from codenav.outcome import Notes
 
 VERSION = "0.6.0"
 MOST_NUMBER = 2147483647

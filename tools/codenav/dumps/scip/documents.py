@@ -4,14 +4,14 @@ is left out, and noted."""
 import fnmatch
 import os
 import posixpath
-from typing import Optional
+from typing import Optional, Sequence
 from urllib.parse import quote
 
-from codenav.addresses import KEPT, address_of, folder_address, is_address, spelled
+from codenav.addresses import KEPT, address_of, folder_address, is_address, root_of, spelled
 from codenav.dumps.scip.messages import IndexFile
 from codenav.dumps.scip.scip_pb2 import Document
 from codenav.faults import BadCall, NotADump
-from codenav.notes import Notes
+from codenav.outcome import Notes
 from codenav.texts.columns import COUNTED, ENCODINGS, UTF_16, Columns
 from codenav.texts.decoded import body_of
 
@@ -22,7 +22,7 @@ class Documents:
     """The addresses of documents, and their paths."""
 
     def __init__(
-        self, index: IndexFile, root: Optional[str], without: list[str], notes: Notes
+        self, index: IndexFile, root: Optional[str], without: Sequence[str], notes: Notes
     ) -> None:
         """Finds the root; raises NotADump where the index has none and none is given."""
         self.name, self.without, self.notes = index.name, without, notes
@@ -31,13 +31,11 @@ class Documents:
         tool = index.metadata.tool_info
         self.tool_info = {"name": tool.name, "version": tool.version}
         given = index.metadata.project_root if root is None else root
-        if root is not None and not is_address(root) and address_of(root) is None:
-            given = os.path.abspath(root)
-        if not is_address(folder_address(given)):
+        self.root = folder_address(given) if root is None else root_of(root)
+        if not is_address(self.root):
             raise NotADump(
                 f"{index.name}: the index has no address of its root, but {given!r}: give --root, the folder that was indexed"
             )
-        self.root = folder_address(given)
 
     def uri_of(self, path: str, byte: int) -> str:
         """The address of a document by its path; the empty text where it's left out."""

@@ -10,7 +10,7 @@ from codenav.dumps.overlaps import sorted_out
 from codenav.dumps.scip.documents import Documents, Texts
 from codenav.dumps.scip.scip_pb2 import Document, Occurrence, SymbolRole
 from codenav.dumps.scip.symbols import is_local, name_of
-from codenav.notes import Notes
+from codenav.outcome import Notes
 from codenav.texts.columns import Columns
 
 Span = tuple[int, int]

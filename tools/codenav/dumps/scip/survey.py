@@ -12,16 +12,12 @@ from typing import Iterable
 from codenav.dumps.scip.occurrences import DEFINED, FORWARD, USED, Stay, key_of
 from codenav.dumps.scip.scip_pb2 import Document, SymbolInformation
 from codenav.dumps.scip.symbols import is_local, markdown
+from codenav.kinds import KINDS
 
 Keys = tuple[str, ...]
 
 SEVERAL, SAID, ELSEWHERE, IMPLEMENTED = 8, 16, 32, 64
-RESULTS = {
-    "definition": "definitionResult",
-    "references": "referenceResult",
-    "implementation": "implementationResult",
-    "declaration": "declarationResult",
-}
+RESULTS = {kind.name: kind.result for kind in KINDS if kind.properties}
 HAVING = {
     "definition": DEFINED | FORWARD | ELSEWHERE,
     "references": USED,

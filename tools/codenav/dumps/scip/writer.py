@@ -5,8 +5,6 @@ occur at one place together have a joint resultSet, with the definitions of each
 result that leads to each one's; docs/DECISIONS.md says how it's chained.
 """
 
-from collections import Counter
-
 from codenav.dumps.prepare.vertices import VERSION
 from codenav.dumps.scip.documents import Documents
 from codenav.dumps.scip.elements import Elements
@@ -18,6 +16,8 @@ from codenav.dumps.scip.symbols import markdown
 
 Places = dict[int, dict[int, None]]
 
+COUNTED = ("documents", "ranges", "occurrences", "crossed")
+
 
 class Conversion:
     """Writes the dump of an index, document by document."""
@@ -25,7 +25,7 @@ class Conversion:
     def __init__(self, writer: Elements, survey: Survey, documents: Documents) -> None:
         self.writer = writer
         self.meanings = Meanings(writer, survey)
-        self.counts: Counter[str] = Counter()
+        self.counts = dict.fromkeys(COUNTED, 0)
         self.hovers: dict[str, int] = {}
         writer.vertex(
             "metaData",
@@ -41,12 +41,9 @@ class Conversion:
         self.hovers = {}
         self.meanings.begin(uri, document, stay, home)
         ranges = self.ranges(stay)
-        self.counts.update(
-            documents=1,
-            ranges=len(ranges),
-            occurrences=len(stay.occurrences) + stay.crossed,
-            crossed=stay.crossed,
-        )
+        found = 1, len(ranges), len(stay.occurrences) + stay.crossed, stay.crossed
+        for what, count in zip(COUNTED, found):
+            self.counts[what] += count
         if ranges:
             self.writer.edges("contains", home, list(ranges.values()))
         places: dict[str, Places] = {}

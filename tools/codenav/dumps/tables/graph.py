@@ -8,32 +8,26 @@ from __future__ import annotations
 import hashlib
 import json
 import os
-import sys
 from array import array
 from dataclasses import dataclass, field
 from functools import partial
 from typing import Any, BinaryIO, Callable, Iterable, Iterator, Optional, Sequence
 
 from codenav.addresses import is_address
+from codenav.dumps.lsif.elements import Id, is_id
 from codenav.dumps.lsif.json_values import scan
-from codenav.dumps.lsif.reading import MOST_ELEMENT_BYTES, SPACE, Id, is_id
+from codenav.dumps.lsif.reading import MOST_ELEMENT_BYTES, SPACE
 from codenav.dumps.prepare.vertices import VERSION
 from codenav.dumps.tables.disk_arrays import Numbers
 from codenav.faults import NotADump
+from codenav.kinds import NUMBERED
+from codenav.progress import Shows
 
 DEFINITION, REFERENCES, HOVER, DECLARATION, IMPLEMENTATION = REQUESTS = range(5)
-EDGES = [
-    f"textDocument/{name}"
-    for name in ("definition", "references", "hover", "declaration", "implementation")
-]
-RESULTS = [
-    "definitionResult",
-    "referenceResult",
-    "hoverResult",
-    "declarationResult",
-    "implementationResult",
-]
-ASKED = {"1": 3, "2": 5}
+EDGES = [kind.edge for kind in NUMBERED]
+RESULTS = [kind.result for kind in NUMBERED]
+ASKED = {profile: sum(kind.is_of(profile) for kind in NUMBERED) for profile in ("1", "2")}
+"""How many requests a profile has, which come first."""
 WITH_PLACES = (DEFINITION, REFERENCES, DECLARATION, IMPLEMENTATION)
 BY_IMPORT = (DEFINITION, DECLARATION, IMPLEMENTATION)
 LINE = 1 << 31
@@ -344,11 +338,12 @@ def first_element(element: Element) -> None:
         raise Faulty("its positions aren't counted in utf-16 (L06)")
 
 
-def read_graph(source: BinaryIO, name: str, profile: str, progress: bool, tool: str) -> Graph:
-    """Reads a dump for a tool; raises NotADump at the first line that the server would refuse, as
-    far as it's looked at here."""
+def read_graph(source: BinaryIO, name: str, profile: str, shows: Shows) -> Graph:
+    """Reads a dump; raises NotADump at the first line that the server would refuse, as far as it's
+    looked at here."""
     reader, number = Reader(profile, Graph()), 0
-    size = os.fstat(source.fileno()).st_size if progress else 0
+    shows.begin("read", os.fstat(source.fileno()).st_size)
+    source.seek(0)
     for number, line in enumerate(iter(partial(source.readline, MOST_ELEMENT_BYTES), b""), 1):
         try:
             if len(line) == MOST_ELEMENT_BYTES:
@@ -359,17 +354,15 @@ def read_graph(source: BinaryIO, name: str, profile: str, progress: bool, tool: 
             reader.take(element, len(line))
         except Faulty as fault:
             raise NotADump(
-                f"{name}, line {number}: {fault}; prepare-lsif prepares a dump"
+                f"{name}, line {number}: {fault}; `codenav prepare` prepares a dump"
             ) from None
         except (KeyError, TypeError, AttributeError):
             text = "a member is missing or names no earlier vertex (L07 to L09)"
             raise NotADump(f"{name}, line {number}: {text}") from None
-        if progress and number % 50_000 == 0:
-            said = f"\r{tool}: read {reader.at >> 20} of {size >> 20} MiB"
-            print(said, end="", file=sys.stderr, flush=True)
-    if progress:
-        print("\r" + " " * 50 + "\r", end="", file=sys.stderr)
+        if number % 10_000 == 0:
+            shows.at(reader.at)
     if number == 0:
         raise NotADump(f"{name}: empty")
+    shows.end(f"{number} elements")
     reader.forget()
     return reader.graph

@@ -3,17 +3,17 @@ to columns on disk, and so do the texts of hovers, so memory grows with the symb
 document.
 """
 
-import argparse
 import json
 from array import array
 from typing import IO, Any, Iterator, Sequence
 
-from codenav.dumps.scip.conversion import convert
+from codenav.dumps.scip.conversion import converted
 from codenav.dumps.scip.messages import IndexFile
+from codenav.dumps.scip.options import ScipOptions
 from codenav.dumps.tables.disk_arrays import Column, Numbers
 from codenav.dumps.tables.graph import KINDS, NONE, RANGE, Graph, Reader
-from codenav.faults import BadCall, NotADump
-from codenav.notes import Notes
+from codenav.outcome import Outcome
+from codenav.progress import Shows
 
 
 class StoredGraph(Graph):
@@ -116,15 +116,11 @@ class GraphWriter:
         return self.graph
 
 
-def read_index(path: str, texts: IO[bytes], call: argparse.Namespace, said: list[str]) -> Graph:
-    """The tables of an index; its hovers are written as lines of a dump. What is said of it is
-    added to `said`. Raises BadCall where it can't be read."""
-    notes = Notes()
-    writer = GraphWriter(call.profile, texts)
-    try:
-        with open(path, "rb") as file:
-            said += convert(IndexFile(file, call.input), writer, call, notes)
-    except NotADump as fault:
-        raise BadCall(str(fault)) from None
-    call.is_flawed = bool(notes.left_out)
-    return writer.finish()
+def read_index(
+    index: IndexFile, texts: IO[bytes], profile: str, options: ScipOptions, shows: Shows
+) -> tuple[Graph, Outcome]:
+    """The tables of an index, and what came of it; its hovers are written as lines of a dump.
+    Raises NotADump or BadCall where it can't be read."""
+    writer = GraphWriter(profile, texts)
+    outcome = converted(index, writer, options, shows)
+    return writer.finish(), outcome

@@ -8,6 +8,8 @@ from collections import defaultdict
 from dataclasses import dataclass
 from typing import Any, Iterable, Mapping, Union
 
+from codenav.outcome import ROWS, Excess, Note
+
 Id = Union[int, str]
 Element = Mapping[str, Any]
 
@@ -218,22 +220,18 @@ def walk(pairs: Mapping[Id, list[Id]], start: Id, most: int) -> tuple[Iterable[I
     return found, gone
 
 
-def lines(tallies: Mapping[str, Tally]) -> list[str]:
+def note(tallies: Mapping[str, Tally]) -> Note:
     """How many rows of each kind there are."""
-    return [
-        "rows: "
-        + ", ".join(
-            f"{tally.rows} {kind}"
-            for kind, tally in tallies.items()
-            if not kind.startswith("pairs")
-        )
-    ]
+    kinds = [kind for kind in tallies if not kind.startswith("pairs")]
+    return Note(ROWS, ", ".join(f"{tallies[kind].rows} {kind}" for kind in kinds))
 
 
-def excesses(tallies: Mapping[str, Tally]) -> list[str]:
+def excesses(tallies: Mapping[str, Tally]) -> list[Excess]:
     """Which limits of the server the rows go over."""
     return [
-        f"over the limits: {tally.counted} {'' if kind.startswith('pairs') else 'rows of '}{kind}, the server takes {MOST_ROWS} (S02)"
+        Excess(
+            kind if kind.startswith("pairs") else f"rows of {kind}", tally.counted, MOST_ROWS, "S02"
+        )
         for kind, tally in tallies.items()
         if tally.counted > MOST_ROWS
     ]

@@ -9,8 +9,10 @@ import os
 from typing import Iterator, NamedTuple
 
 from codenav.faults import BadCall
-from codenav.sets.manifest import MANIFEST, Head, NotAManifest, read_head, shown_name
-from codenav.sets.publish.spread import surface_name
+from codenav.names import shown_name
+from codenav.sets.files import MANIFEST, read_head
+from codenav.sets.manifest import Head, NotAManifest
+from codenav.sets.surface.made import surface_name
 
 
 class Kept(NamedTuple):

@@ -12,9 +12,12 @@ from typing import Callable, Iterator, Optional
 
 from codenav.faults import BadCall
 from codenav.sets.manifest import CLAIM, PARTS, SURFACE, part_name
+from codenav.sets.publish.claim import Claim, Late, claimed
 from codenav.sets.publish.places import Place, is_same
-from codenav.sets.publish.publish import Claim, Late, Publish, Store, claimed
-from codenav.sets.publish.spread import Spread, surface_file
+from codenav.sets.publish.publish import Publish
+from codenav.sets.publish.spread import Spread
+from codenav.sets.publish.store import Store
+from codenav.sets.surface.made import surface_file
 
 
 @dataclass

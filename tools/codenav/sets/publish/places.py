@@ -9,7 +9,7 @@ from typing import Any, Iterable, Iterator, Optional
 
 from codenav.faults import NoReply
 from codenav.sets.manifest import ABOUT, PARTS, SURFACE, Head, NotAManifest, Tag, head_of
-from codenav.sets.publish.publish import Store
+from codenav.sets.publish.store import Store
 from codenav.sets.ring import shard_of
 
 

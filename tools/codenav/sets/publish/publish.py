@@ -4,31 +4,20 @@ removes the parts of before.
 Whoever asks meanwhile is answered from the old set, and from the one put of the manifest on from
 the new one. A publish that ends before leaves the old set answering, and the next one removes what
 it left. One publish of a set goes on at a time: it holds a claim, which others see.
-
-The server keeps keys for good and answers a key that it knows by the reply of the first time. So a
-claim and a manifest are put under a key that the one before them determines: of two that follow the
-same one the first alone acts, and the other finds that it isn't there.
 """
 
-import argparse
-import io
 import os
 import secrets
-import socket
 import time
-from contextlib import contextmanager
 from dataclasses import dataclass, field
-from typing import Any, Iterable, Iterator, Optional
+from typing import Iterable, Optional
 
-from codenav.cli.ends import status_of
-from codenav.client.http import address, found_in, refusal_of, request, request_again
-from codenav.faults import BadCall, NoReply
-from codenav.names import server_of
+from codenav.faults import BadCall
+from codenav.names import shown_name
+from codenav.sets.files import MANIFEST, files_of, put_file, read_head, with_head
 from codenav.sets.manifest import (
-    ABOUT,
     CLAIM,
     DOCUMENT,
-    MANIFEST,
     PART,
     PARTS,
     DocumentEntry,
@@ -37,175 +26,16 @@ from codenav.sets.manifest import (
     document_lines,
     fields_of,
     head_lines,
-    head_of,
-    line_of,
-    read_head,
-    shown_name,
     tags_text,
-    with_head,
 )
-
-LEASE = 900
-RENEWED = 30
-MOST_LIVES = 1000
-
-
-class Late(BadCall):
-    """Another publish of the set was faster, or is under way; the text is the one line to print."""
+from codenav.sets.publish.claim import MOST_LIVES, Claim, Late, after, claimed
+from codenav.sets.publish.store import Store
 
 
 def content_of(path: str) -> bytes:
     """The bytes of a file."""
     with open(path, "rb") as file:
         return file.read()
-
-
-class Store:
-    """The requests of a publish to a server."""
-
-    def __init__(self, server: str, retry: bool = True) -> None:
-        self.server, self.retry = server, retry
-
-    def found(self, path: str, parameters: dict[str, Any], member: str) -> Any:
-        """What a query finds."""
-        return found_in(request(address(self.server, path, parameters)), member)
-
-    def change(self, method: str, path: str, parameters: dict[str, Any], body: bytes) -> None:
-        """Makes a change; raises NoReply where it isn't made, and a repeated one is made once."""
-        url = address(self.server, path, parameters)
-        content = io.BytesIO(body) if method == "PUT" else None
-        answer = request_again(url, method, content, self.retry)
-        if answer.status != 200:
-            raise NoReply(refusal_of(answer))
-
-    def put(self, project: str, part: str, body: bytes, key: str, profile: str = "1") -> None:
-        """Puts the dump or the tags of a project."""
-        parameters = {"key": key, **({"profile": profile} if profile != "1" else {})}
-        self.change("PUT", f"/projects/{project}/{part}", parameters, body)
-
-    def remove(self, project: str) -> None:
-        """Removes a project."""
-        self.change("DELETE", f"/projects/{project}", {"key": secrets.token_hex(16)}, b"")
-
-    def projects(self) -> dict[str, set[str]]:
-        """The projects of the server, each with the parts that it has: `lsif`, `tags`."""
-        with self.understood():
-            return {
-                one["name"]: {
-                    part for part, there in (("lsif", one["dump"]), ("tags", one["tags"])) if there
-                }
-                for one in self.found("/projects", {}, "projects")
-            }
-
-    @contextmanager
-    def understood(self) -> Iterator[None]:
-        """Has a reply without what is looked for in it be a fault of the server."""
-        try:
-            yield
-        except (KeyError, TypeError, AttributeError):
-            text = f"{self.server}: not a reply of codenav as these tools know it"
-            raise NoReply(text) from None
-
-    def tags(self, project: str, prefix: str) -> list[dict[str, Any]]:
-        """The tags of a project whose names begin with a text."""
-        return list(self.found("/names", {"prefix": prefix, "project": project}, "tags"))
-
-    def head(self, name: str) -> Optional[Head]:
-        """What the manifest of a set says, or None where there is none; raises NotAManifest."""
-        return head_of(self.tags(name + PARTS, ABOUT), name + PARTS)
-
-
-@dataclass
-class Claim:
-    """The claim of a set, which one publish holds at a time. `mark` is that of its last record,
-    empty where there's none."""
-
-    store: Store
-    name: str
-    mark: str = ""
-    put_at: float = 0.0
-    taken_over: bool = False
-
-    def record(self) -> dict[str, str]:
-        """The last record, empty where there's none."""
-        tags = self.store.tags(self.name + CLAIM, ABOUT)
-        return fields_of(tags[0]) if tags else {}
-
-    def put(self, state: str) -> bool:
-        """Puts a record after the last one that was seen; answers whether it's there now, and not
-        one of another."""
-        own = secrets.token_hex(16)
-        fields = {
-            "mark": own,
-            "state": state,
-            "host": socket.gethostname(),
-            "pid": str(os.getpid()),
-            "time": str(int(time.time())),
-        }
-        body = tags_text([line_of(f"{ABOUT}claim", self.name, fields.items())])
-        for life in range(MOST_LIVES):
-            self.store.put(self.name + CLAIM, "tags", body, after(self.mark, life))
-            record = self.record()
-            if record or self.mark:
-                break
-        is_own = record.get("mark") == own
-        if is_own:
-            self.mark, self.put_at = own, time.monotonic()
-        return is_own
-
-    def take(self) -> None:
-        """Takes the claim; raises Late where another publish holds it."""
-        record = self.record()
-        self.mark = record.get("mark", "")
-        self.taken_over = record.get("state") == "held"
-        if self.taken_over and is_alive(record):
-            raise Late(
-                f"another publish of {shown_name(self.name)} is under way: process {record.get('pid')} of {record.get('host')}"
-            )
-        if not self.put("held"):
-            raise Late(f"another publish of {shown_name(self.name)} is under way")
-
-    def renew(self, always: bool = False) -> None:
-        """Renews the claim now and then; raises Late where another publish has taken it over."""
-        if always or time.monotonic() - self.put_at > RENEWED:
-            if not self.put("held"):
-                raise Late(f"another publish of {shown_name(self.name)} has taken over")
-
-
-def after(mark: str, life: int = 0) -> str:
-    """The key of what follows something with a mark; what follows nothing has a key for each time
-    that all was removed."""
-    return f"after-{mark}" if mark else f"first-{life}"
-
-
-def is_alive(record: dict[str, str]) -> bool:
-    """Whether the process that put a record of a claim may still be at work."""
-    # a clock that goes otherwise than this one's is no reason to wait for longer
-    if abs(time.time() - float(record.get("time", "0"))) > LEASE:
-        return False
-    if record.get("host") != socket.gethostname():
-        return True
-    try:
-        os.kill(int(record.get("pid", "0")), 0)
-    except ProcessLookupError:
-        return False
-    except PermissionError:
-        pass
-    return True
-
-
-@contextmanager
-def claimed(store: Store, name: str) -> Iterator[Claim]:
-    """The claim of a set, held up to the end of the context."""
-    claim = Claim(store, name)
-    claim.take()
-    try:
-        yield claim
-    finally:
-        try:
-            claim.put("free")
-        except NoReply:
-            pass
 
 
 def parts_of(name: str, projects: Iterable[str]) -> list[str]:
@@ -242,16 +72,8 @@ class Publish:
 
     def __post_init__(self) -> None:
         self.head = read_head(os.path.join(self.folder, MANIFEST))
-        self.files = {project: self.files_of(project) for project in self.head.projects()}
+        self.files = {project: files_of(self.folder, project) for project in self.head.projects()}
         self.mark = secrets.token_hex(16)
-
-    def files_of(self, project: str) -> dict[str, str]:
-        """The files of a part: its dump, its tags or both; raises BadCall where there is none."""
-        paths = {part: os.path.join(self.folder, f"{project}.{part}") for part in ("lsif", "tags")}
-        found = {part: path for part, path in paths.items() if os.path.isfile(path)}
-        if not found:
-            raise BadCall(f"{paths['lsif']}: no such part; split the dump again")
-        return found
 
     def run(self) -> Report:
         """Publishes the set; raises NoReply, Late or NotAManifest where it can't, and then the old
@@ -282,7 +104,7 @@ class Publish:
             raise NotAManifest(f"{name}{PARTS} isn't the manifest of a set: somebody else wrote it")
         if name in there and not self.in_place_of_project:
             raise BadCall(
-                f"a project {name} is on the server, which is asked in the set's place: tools/remove removes it"
+                f"a project {name} is on the server, which is asked in the set's place: `codenav remove` removes it"
             )
 
     def settle(self, old: Head) -> Head:
@@ -357,8 +179,7 @@ def fetch_cuts(store: Store, name: str, folder: str) -> None:
     head = None if os.path.exists(path) else store.head(name)
     if head is not None:
         os.makedirs(folder, exist_ok=True)
-        with open(path, "wb") as out:
-            out.write(tags_text(head_lines(head)))
+        put_file(path, tags_text(head_lines(head)))
 
 
 def remove_set(store: Store, name: str) -> int:
@@ -374,38 +195,3 @@ def remove_set(store: Store, name: str) -> int:
             store.remove(project)
     store.remove(name + CLAIM)
     return len(head.parts)
-
-
-def published(call: argparse.Namespace) -> int:
-    """Publishes what the command line names and prints the report; answers 0."""
-    publish = Publish(Store(server_of(call.url)), call.folder, call.grace)
-    try:
-        print(publish.run().line())
-    except NoReply as fault:
-        state = (
-            "is switched, and the next publish removes what is left"
-            if publish.is_switched
-            else "is as it was"
-        )
-        raise BadCall(f"{fault}; the set {shown_name(publish.head.name)} {state}") from None
-    return 0
-
-
-def main(words: Optional[list[str]] = None) -> int:
-    """Reads the command line; answers 0, or 2 where the set wasn't published."""
-    parser = argparse.ArgumentParser(
-        prog="publish-set",
-        description=__doc__,
-        formatter_class=argparse.RawDescriptionHelpFormatter,
-    )
-    parser.add_argument(
-        "--grace",
-        type=float,
-        default=0.0,
-        metavar="SECONDS",
-        help="leave the parts of before so long after the switch",
-    )
-    parser.add_argument("url", metavar="URL", help="the server, as http://127.0.0.1:8080")
-    parser.add_argument("folder", metavar="FOLDER", help="the folder that split-lsif wrote")
-    call = parser.parse_args(words)
-    return status_of("publish-set", lambda: published(call))

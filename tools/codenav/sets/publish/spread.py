@@ -6,101 +6,20 @@ is shown those that the manifest names. After it the old ones are removed. A pub
 before leaves the old revision answering everywhere, and the next one removes what it left.
 """
 
-import os
 import re
 import secrets
 from contextlib import contextmanager
 from dataclasses import dataclass, field
-from typing import BinaryIO, Iterator, NamedTuple, Optional, cast
+from typing import Iterator, Optional
 
 from codenav.faults import BadCall, NoReply
-from codenav.files import whole_file
-from codenav.limits import excesses
-from codenav.sets.manifest import (
-    CLAIM,
-    MANIFEST,
-    PACKAGE,
-    PARTS,
-    SURFACE,
-    Head,
-    PartEntry,
-    package_of,
-    part_name,
-    read_head,
-    set_name,
-    with_head,
-)
-from codenav.sets.publish.publish import Claim, Publish, Store, content_of
-from codenav.sets.split import split
-from codenav.sets.surface.surface import write_surface
+from codenav.sets.manifest import CLAIM, PACKAGE, PARTS, SURFACE, Head, package_of
+from codenav.sets.publish.claim import Claim
+from codenav.sets.publish.publish import Publish
+from codenav.sets.publish.store import Store
+from codenav.sets.surface.made import surface_file
 
-MOST_NAME = 39
 DIGITS = "-[0-9a-f]{16}"
-
-
-def surface_name(name: str) -> str:
-    """The set that the surface of a set is; raises BadCall where the name is too long for it, or is
-    that of a surface."""
-    if name.endswith(SURFACE):
-        raise BadCall(
-            f"on several servers a set's name doesn't end with {SURFACE}, as {name!r} does"
-        )
-    if len(name) > MOST_NAME:
-        raise BadCall(
-            f"on several servers a set's name has at most {MOST_NAME} characters, not {name!r}"
-        )
-    return set_name(name + SURFACE)
-
-
-class Made(NamedTuple):
-    """A surface that was made: its parts, and the packages that the dump is joined by."""
-
-    parts: tuple[PartEntry, ...]
-    packages: tuple[str, ...]
-
-
-def made_surface(dump: str, name: str, profile: str, folder: str) -> Made:
-    """Writes the surface of a prepared dump into a folder, in parts where it's over the limits, and
-    removes what's left there of another one."""
-    os.makedirs(folder, exist_ok=True)
-    whole = os.path.join(folder, "whole.lsif")
-    with open(dump, "rb") as source:
-        _, surface = write_surface(cast(BinaryIO, source), dump, profile, whole)
-    parts: tuple[PartEntry, ...] = ()
-    if surface.bearers and excesses(surface.lines.count, surface.bytes, surface.longest):
-        parts = split_surface(whole, name, profile, folder)
-    elif surface.bearers:
-        project = part_name(surface_name(name), content_of(whole), profile)
-        os.replace(whole, surface_file(folder, project))
-        parts = (PartEntry(project, surface.lines.count, ""),)
-    named = {surface_file(folder, part.project) for part in parts}
-    for file in os.listdir(folder):
-        path = os.path.join(folder, file)
-        if file.endswith(".lsif") and path not in named:
-            os.unlink(path)
-    return Made(parts, surface.joined_packages())
-
-
-def surface_file(folder: str, project: str) -> str:
-    """The file of a part of a surface in its folder."""
-    return os.path.join(folder, f"{project}.lsif")
-
-
-def keep_surface(folder: str, surface: Made) -> None:
-    """Writes into the manifest of a set's folder what its surface is."""
-    path = os.path.join(folder, MANIFEST)
-    head = read_head(path)._replace(surface=surface.parts, packages=surface.packages)
-    body = with_head(path, head)
-    with whole_file(path) as out:
-        out.write(body)
-
-
-def split_surface(whole: str, name: str, profile: str, folder: str) -> tuple[PartEntry, ...]:
-    """Splits a surface that is over the limits; answers the parts."""
-    words = ["--name", surface_name(name), "--profile", profile, whole, folder]
-    if split.main(words) != 0:
-        raise BadCall("the surface of the dump can't be split")
-    return read_head(os.path.join(folder, MANIFEST)).parts
 
 
 @dataclass

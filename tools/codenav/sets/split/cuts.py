@@ -17,7 +17,8 @@ from codenav.dumps.tables.rows import MOST_ROWS, TEXT_BYTES
 from codenav.limits import MOST_BODY_BYTES, MOST_ELEMENTS
 from codenav.sets.split.crossing import Cut, Shared
 from codenav.sets.split.flat import Flat
-from codenav.sets.split.part import Counter, Part
+from codenav.sets.split.lines import Counter
+from codenav.sets.split.part import Part
 
 LOW, HIGH = 0.6, 0.85
 HALF = 0.5

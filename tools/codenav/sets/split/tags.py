@@ -8,12 +8,13 @@ from dataclasses import dataclass
 from typing import Sequence
 
 from codenav.addresses import serialized
-from codenav.index.tags_file import MOST_BODY_BYTES, MOST_LINES
+from codenav.limits import MOST_BODY_BYTES
 from codenav.texts.places import Maps, uri_of
 
 ESCAPE = re.compile(rb"\\(?:x([0-9A-Fa-f]{2})|(.))", re.DOTALL)
 LETTERS = dict(zip(b"abtnvfr", b"\a\b\t\n\v\f\r"))
 PSEUDO = b"!_TAG_"
+MOST_LINES = 100_000
 
 
 @dataclass

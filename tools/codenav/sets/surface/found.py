@@ -11,7 +11,7 @@ from array import array
 from typing import Iterator, NamedTuple
 
 from codenav.dumps.tables.graph import EDGES, HOVER, KINDS, NONE, REFERENCES, SET, Graph
-from codenav.faults import NotADump
+from codenav.sets.split.chains import chain_from, moniker_groups
 
 EITHER, EXPORT = 1, 2
 
@@ -22,18 +22,6 @@ class Bearer(NamedTuple):
 
     monikers: list[int]
     results: list[tuple[int, int]]
-
-
-def chain_from(graph: Graph, first: int, is_done: bytearray) -> list[int]:
-    """The result sets from one on along `next` edges, up to one that is done; raises NotADump at a
-    cycle."""
-    chain, step = [], first
-    while step != NONE and not is_done[step]:
-        chain.append(step)
-        if len(chain) > len(is_done):
-            raise NotADump("`next` edges close a cycle (L14)")
-        step = graph.after_set[step]
-    return chain
 
 
 def first_results(graph: Graph) -> list[array[int]]:
@@ -55,24 +43,11 @@ def take_after(firsts: list[array[int]], own: int, after: int) -> None:
             results[own] = results[after]
 
 
-def joined_monikers(graph: Graph, first: int, seen: bytearray) -> list[int]:
-    """The monikers that `attach` edges lead to from one that wasn't seen, and that one."""
-    found = [first]
-    seen[first] = 1
-    for own in found:
-        for other in graph.attached.get(own, ()):
-            if not seen[other]:
-                seen[other] = 1
-                found.append(other)
-    return found
-
-
 def kinds_of_monikers(graph: Graph) -> bytearray:
     """For each moniker whether it, or one that `attach` edges lead to, is an export (EXPORT), an
     import (EITHER), or neither."""
-    kinds, seen = bytearray(len(graph.monikers)), bytearray(len(graph.monikers))
-    for first in range(len(kinds)):
-        group = [] if seen[first] else joined_monikers(graph, first, seen)
+    kinds = bytearray(len(graph.monikers))
+    for group in moniker_groups(graph):
         said = {graph.monikers[own][2] for own in group}
         kind = EXPORT if "export" in said else EITHER if "import" in said else 0
         for own in group:

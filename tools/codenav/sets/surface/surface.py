@@ -7,34 +7,16 @@ or monikers, so a question that is asked there is answered by nothing. A surface
 limits is split as a dump is.
 """
 
-import argparse
-import gc
-import os
-import sys
 from array import array
 from itertools import groupby
-from typing import BinaryIO, Iterator, Optional, cast
+from typing import BinaryIO, Iterator
 
-from codenav.cli.ends import status_of
-from codenav.client.upload import body_of
-from codenav.dumps.tables.graph import (
-    ASKED,
-    EDGES,
-    HOVER,
-    NONE,
-    REFERENCES,
-    RESULTS,
-    Graph,
-    read_graph,
-)
-from codenav.faults import BadCall, NotADump
+from codenav.dumps.tables.graph import EDGES, HOVER, NONE, REFERENCES, RESULTS, Graph, read_graph
+from codenav.faults import NotADump
 from codenav.files import whole_file
-from codenav.limits import excesses
-from codenav.sets.split.part import ROLE_NAMES, Lines, as_text
+from codenav.progress import Shows
+from codenav.sets.split.lines import ROLE_NAMES, Lines, as_text
 from codenav.sets.surface.found import Bearer, bearers, led_to
-
-TOOL = "surface-lsif"
-PROGRESS_BYTES = 5_000_000
 
 
 class Surface:
@@ -174,57 +156,14 @@ class Surface:
             self.lines.edge("moniker", own, self.monikers[moniker])
 
 
-def write_surface(source: BinaryIO, name: str, profile: str, target: str) -> tuple[int, Surface]:
-    """Writes the surface of a dump into a file; answers how many elements the dump has, and the
-    surface. Raises NotADump."""
-    is_long = os.fstat(source.fileno()).st_size > PROGRESS_BYTES and sys.stderr.isatty()
-    source.seek(0)
-    graph = read_graph(source, name, profile, is_long, TOOL)
-    with whole_file(target) as out:
-        surface = Surface(graph, source, out)
-        surface.write()
+def write_surface(
+    path: str, profile: str, target: str, shows: Shows, name: str = ""
+) -> tuple[int, Surface]:
+    """Writes the surface of the prepared dump in a file into another; `name` is what faults call
+    it. Answers how many elements the dump has, and the surface. Raises NotADump."""
+    with open(path, "rb") as source:
+        graph = read_graph(source, name or path, profile, shows)
+        with whole_file(target) as out:
+            surface = Surface(graph, source, out)
+            surface.write()
     return graph.elements, surface
-
-
-def made(call: argparse.Namespace) -> int:
-    """Writes the surface that the command line names; answers the status."""
-    name = "standard input" if call.input == "-" else call.input
-    try:
-        with body_of(call.input) as source:
-            elements, surface = write_surface(
-                cast(BinaryIO, source), name, call.profile, call.output
-            )
-    except NotADump as fault:
-        raise BadCall(str(fault)) from None
-    lines = surface.lines
-    print(f"{TOOL}: elements {elements} -> {lines.count}", file=sys.stderr)
-    over = excesses(lines.count, surface.bytes, surface.longest)
-    for line in over:
-        print(f"{TOOL}: {line}; split-lsif splits it", file=sys.stderr)
-    return 1 if over else 0
-
-
-def words_parser() -> argparse.ArgumentParser:
-    """What the command line may be."""
-    parser = argparse.ArgumentParser(
-        prog=TOOL,
-        description=__doc__,
-        formatter_class=argparse.RawDescriptionHelpFormatter,
-        epilog="status: 0; 1 where what was written is over a limit of the server; 2 where nothing was written",
-    )
-    parser.add_argument(
-        "--profile", choices=list(ASKED), default="1", help="how the dump is read, 1 without it"
-    )
-    parser.add_argument(
-        "input", metavar="IN", help="the prepared dump, or - for the standard input"
-    )
-    parser.add_argument("output", metavar="OUT", help="the surface, or - for the standard output")
-    return parser
-
-
-def main(words: Optional[list[str]] = None) -> int:
-    """Reads the command line; answers 0, 1 where the surface is over the limits, and 2 where
-    nothing was written."""
-    call = words_parser().parse_args(words)
-    gc.disable()
-    return status_of(TOOL, lambda: made(call))

@@ -1,0 +1,286 @@
+"""`codenav publish`."""
+
+import argparse
+import json
+import os
+import sys
+import tempfile
+from contextlib import contextmanager
+from dataclasses import dataclass, field
+from typing import Any, Iterator, Optional, Sequence
+
+from codenav.cli.command import Command
+from codenav.cli.options import URL_HELP, add_words, url_in
+from codenav.cli.show import Shown
+from codenav.files import whole_file
+from codenav.index.indexers import INDEXERS
+from codenav.names import shown_name
+from codenav.publishing.made import How, Made, Refused, Row
+from codenav.publishing.making import Making
+from codenav.publishing.send import Sent, send
+from codenav.publishing.target import Target, target_at
+from codenav.sets.ring import servers_of
+from codenav.settings.checkout import new_settings, plain, target_of
+from codenav.settings.found import FILE, found_in_file
+from codenav.texts.places import map_words
+
+TOOL = "codenav publish"
+FORM = "[[URL] PROJECT] [FOLDER]"
+KNOWN = "\n".join(
+    f"  {one.name:20} {one.line}"
+    + (f"   where there is {' or '.join(one.marks)}" if one.marks else "")
+    for one in INDEXERS
+)
+
+
+@dataclass(slots=True)
+class PublishCall:
+    """What `publish` is told."""
+
+    index: str = ""
+    indexer: str = ""
+    dump: str = ""
+    no_index: bool = False
+    without: list[str] = field(default_factory=list)
+    no_tags: bool = False
+    profile: str = ""
+    program: Optional[str] = None
+    set: bool = False
+    servers: str = ""
+    servers_that_join: bool = False
+    revision: Optional[str] = None
+    keep: Optional[str] = None
+    dry_run: bool = False
+    write_settings: bool = False
+    overwrite: bool = False
+    json: bool = False
+    words: Sequence[str] = ()
+
+    def how(self) -> How:
+        """How what is uploaded is made."""
+        return How(
+            self.index,
+            self.indexer,
+            self.dump,
+            self.no_index,
+            tuple(self.without),
+            self.no_tags,
+            self.profile,
+            self.program,
+            self.set,
+            self.revision,
+            self.dry_run,
+        )
+
+
+def add_publish(parser: argparse.ArgumentParser) -> None:
+    """The words of `publish`."""
+    how = parser.add_mutually_exclusive_group()
+    how.add_argument(
+        "--index",
+        metavar="LINE",
+        help="the line of a shell that indexes FOLDER and is called there: it prints LSIF or SCIP, or writes it to the file that $OUT names",
+    )
+    how.add_argument("--indexer", metavar="NAME", help="one of the known indexers, by its name")
+    how.add_argument("--dump", metavar="FILE", help="a dump or a SCIP index that is there already")
+    how.add_argument("--no-index", action="store_true", help="upload tags alone")
+    parser.add_argument(
+        "--without",
+        action="append",
+        metavar="GLOB",
+        help="leave out the documents whose path from the project's root on is like GLOB, as of prepare",
+    )
+    parser.add_argument("--no-tags", action="store_true", help="upload the dump alone")
+    parser.add_argument(
+        "--profile",
+        choices=["1", "2"],
+        help="how the dump is read; 2 has declarations and implementations too, and is taken without it where the dump has such",
+    )
+    for option, metavar, text in (
+        (
+            "--program",
+            "PATH",
+            "the program, which checks before the upload; without it CODENAV_PROGRAM, that of this clone or package, or the one on the path",
+        ),
+        (
+            "--servers",
+            "URL,URL..",
+            "all servers of a front that spreads projects, spelled as in its configuration: the set goes to the one that the front picks, and its "
+            f"surface to the others; without it `servers` of FOLDER's {FILE}. URL is the front then, or one of them",
+        ),
+        (
+            "--revision",
+            "REV",
+            "the git revision that is indexed; without it the one that FOLDER has checked out, where no file that git has is changed",
+        ),
+        (
+            "--keep",
+            "FOLDER",
+            "keep the files that are made, in FOLDER, which with several servers is one for each set: `codenav rebalance` puts them",
+        ),
+    ):
+        parser.add_argument(option, metavar=metavar, help=text)
+    for option, text in (
+        (
+            "--set",
+            "make a set of parts, as is done by itself of a dump that is too large for one project",
+        ),
+        (
+            "--servers-that-join",
+            "the surface goes to those of the servers alone that have a set which imports or exports something of one of its packages",
+        ),
+        ("--dry-run", "make and check all, and upload nothing"),
+        (
+            "--write-settings",
+            f"write FOLDER's {FILE} with what is published, unless it has other settings",
+        ),
+        ("--overwrite", "with --write-settings, other settings too"),
+        ("--json", "print what was done as JSON"),
+    ):
+        parser.add_argument(option, action="store_true", help=text)
+    add_words(
+        parser,
+        FORM,
+        f"{URL_HELP}. PROJECT, and URL too, may be left out where FOLDER's {FILE} has them. FOLDER is the checkout, and . without it; one whose "
+        "name could be a project's is written as ./NAME",
+    )
+
+
+def servers_in(given: str, folder: str) -> tuple[str, ...]:
+    """The servers that a set is published to, as they're given or by the settings in a folder; none
+    where it goes to one."""
+    path = os.path.join(folder, FILE)
+    if given:
+        return tuple(servers_of(given.split(",")))
+    found = found_in_file(path).get("servers", []) if os.path.isfile(path) else []
+    return tuple(servers_of(found)) if found else ()
+
+
+@contextmanager
+def work_folder(kept: Optional[str]) -> Iterator[str]:
+    """The folder that files are made in: the one that is named, which stays, or one that goes with
+    the context."""
+    if kept is not None:
+        os.makedirs(kept, exist_ok=True)
+        yield kept
+        return
+    with tempfile.TemporaryDirectory(prefix="codenav-publish-") as folder:
+        yield folder
+
+
+def settings_of(url: str, target: Target, made: Made, path: str, overwrites: bool) -> str:
+    """The text of the settings of what is published; nothing where the file has them. Raises
+    BadCall."""
+    wanted: dict[str, Any] = {"server": plain(url), "project": target.project}
+    if target.servers:
+        wanted["servers"] = [plain(server) for server in target.servers]
+    wanted["map"] = {made.where: os.curdir}
+    return new_settings(path, wanted, overwrites)
+
+
+def uploaded(made: Made, sent: Sent, target: Target) -> Iterator[str]:
+    """What was uploaded, and where its documents are."""
+    for one in sent.accepted:
+        of = f"{one.count} tags"
+        if one.part == "lsif":
+            of = f"a dump of {one.count} elements, profile {one.profile}"
+        yield f"uploaded {one.project}: {of}"
+    if sent.removed:
+        yield f"uploaded {target.project}: and removed its set of {sent.removed} parts"
+    if sent.report is not None and made.files is not None:
+        where = f" at {target.home}" if target.servers else ""
+        yield f"uploaded {shown_name(made.files.head.name)}: a set{where}, {sent.report.line()}"
+    if made.bodies[0].part == "lsif":
+        words = map_words(made.where, "FOLDER")
+        yield f"documents are below {made.where}: elsewhere ask with --map {words}"
+        if made.commit:
+            yield f"the index is of revision {made.commit}, which it keeps"
+
+
+def table(rows: Sequence[Row]) -> list[str]:
+    """What was left out, and why, as the lines of a table; none where nothing was."""
+    cells = [(row.what, "" if row.number is None else str(row.number), row.why) for row in rows]
+    if not cells:
+        return []
+    cells.insert(0, ("left out", "count", "why"))
+    first, second = (max(len(row[column]) for row in cells) for column in (0, 1))
+    return [f"{what:{first}}  {count:>{second}}  {why}" for what, count, why in cells]
+
+
+def as_json(made: Made, sent: Optional[Sent], target: Target) -> str:
+    """What was done, for programs; `uploaded` is null where nothing was to be."""
+    found: dict[str, Any] = {"project": target.project, "uploaded": None, "set": None}
+    if sent is not None:
+        found["uploaded"] = [vars(one) for one in sent.accepted]
+        found["set"] = sent.report and vars(sent.report)
+    found["documents"], found["revision"] = made.where, made.commit or None
+    found["left out"] = [
+        {"what": row.what, "count": row.number, "why": row.why} for row in made.left_out
+    ]
+    return json.dumps(found, separators=(",", ":"))
+
+
+def say(call: PublishCall, made: Made, sent: Optional[Sent], target: Target, written: str) -> None:
+    """Prints what was done, which file of settings was written, and what was left out."""
+    if call.json:
+        print(as_json(made, sent, target))
+        return
+    for line in uploaded(made, sent, target) if sent is not None else ():
+        print(line)
+    if written:
+        print(f"written {written}")
+    for line in table(made.left_out):
+        print(line)
+
+
+def run_publish(call: PublishCall) -> int:
+    """Goes from the checkout to the server; answers 1 where that refuses what was made, or
+    would."""
+    url, project, folder = target_of(*url_in([*call.words]))
+    servers, path = servers_in(call.servers, folder), os.path.join(folder, FILE)
+    target = target_at(url, project, servers, call.servers_that_join, call.set)
+    with Shown(TOOL, True) as shows:
+        making, sent, settings = Making(folder, target, call.how(), shows), None, ""
+        if not call.dry_run:
+            target.reach()
+        try:
+            with work_folder(call.keep) as work:
+                made = making.make(work)
+                if call.write_settings:
+                    settings = settings_of(url, target, made, path, call.overwrite)
+                sent = None if call.dry_run else send(made, target, shows)
+        except Refused as fault:
+            for line in str(fault).splitlines():
+                shows.warn(line)
+            return 1
+    for other in sent.lacking if sent else ():
+        name = shown_name(project)
+        text = f"publish {shown_name(other)} again: it's joined to {name}, and its surface isn't at {target.home}"
+        print(f"{TOOL}: {text}", file=sys.stderr)
+    if sent and settings:
+        with whole_file(path) as file:
+            file.write(settings.encode())
+    pinned = found_in_file(path).get("revision") if os.path.isfile(path) else None
+    if sent and pinned not in (None, made.commit):
+        print(f"{TOOL}: {path}: tools go by its revision {pinned} there", file=sys.stderr)
+    say(call, made, sent, target, path if sent and settings else "")
+    return 0
+
+
+PUBLISH = Command(
+    "publish",
+    "From a checkout to answers by one call: indexes FOLDER, prepares the dump, has ctags make its "
+    "tags, checks both, and uploads them. Each stage is a line on the standard error, and on a "
+    "terminal a bar where Debian's python3-tqdm is there. Nothing is uploaded before all is made and "
+    "checked. What was uploaded is printed, and then what was left out, and why. A dump that is too "
+    "large for one project becomes a set of parts, which is asked by PROJECT too; `NAME@BRANCH` is "
+    "one beside that of NAME. With several servers it's always a set, which goes to its home, and its "
+    "surface to the others.",
+    PublishCall,
+    add_publish,
+    run_publish,
+    epilog=f"known indexers, and how each is called in FOLDER:\n\n{KNOWN}\n\n"
+    "status: 0 where all was uploaded; 1 where the server refuses it or would; 2 where something can't be carried out",
+    usage=f"%(prog)s [-h] [OPTION..] {FORM}",
+    is_mixed=True,
+)

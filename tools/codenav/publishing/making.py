@@ -1,0 +1,256 @@
+"""Makes of a checkout what is uploaded: its dump and its tags, or the parts of a set. All of it is
+checked by the server's own rules, where the program is at hand, before anything is uploaded.
+"""
+
+from __future__ import annotations
+
+import os
+import shutil
+from contextlib import suppress
+from typing import TYPE_CHECKING, Iterator, Optional, Union
+
+from codenav.addresses import folder_address
+from codenav.dumps.check import explain
+from codenav.dumps.dump import is_scip, opened_dump
+from codenav.dumps.lsif.reading import Source
+from codenav.dumps.prepare.plan import Options
+from codenav.dumps.prepare.prepare import prepare
+from codenav.dumps.scip.options import ScipOptions
+from codenav.faults import BadCall, NotADump
+from codenav.index.indexers import fitting, indexed, named
+from codenav.index.tags_file import LEFT_OUT as TAGS_LEFT_OUT
+from codenav.index.tags_file import tagged
+from codenav.kinds import KINDS
+from codenav.names import set_name
+from codenav.outcome import MENDED, Outcome
+from codenav.program import Program
+from codenav.progress import Shows
+from codenav.publishing.made import Body, How, Made, Refused, Row, rows_of
+from codenav.publishing.target import Target
+from codenav.records import Prepared, new_record
+from codenav.sets.files import files_of
+from codenav.sets.publish.publish import fetch_cuts
+from codenav.sets.publish.store import Store
+from codenav.sets.split.split import SetFiles, SplitOptions, split
+from codenav.sets.surface.made import keep_surface, made_surface, surface_file
+from codenav.texts.checked_out import indexed_at, still_indexed_at
+from codenav.texts.places import map_words, uri_of
+
+if TYPE_CHECKING:
+    from codenav.dumps.scip.messages import IndexFile
+
+MISSING = {
+    "lsif": "no indexer is known for what is here (--index)",
+    "tags": "ctags isn't installed (Debian's universal-ctags)",
+}
+
+
+def profile_of(path: str) -> str:
+    """The profile in which a prepared dump is read: 2 where it has results of that alone. Of an
+    index that is split itself it isn't known."""
+    if is_scip(path):
+        return "2"
+    labels = [f'"{kind.result}"'.encode() for kind in KINDS if kind.profile == "2"]
+    with open(path, "rb") as dump:
+        return "2" if any(label in line for line in dump for label in labels) else "1"
+
+
+def refusal(body: Body, said: str) -> Refused:
+    """What is said of a body that the server would refuse."""
+    if body.part == "lsif":
+        with open(body.path, "rb") as dump, suppress(explain.NoFault, NotADump):
+            said = "\n".join(explain.explain(body.path, dump, explain.fault_of(said)))
+    return Refused(f"the server would refuse this {body.part}: {said}")
+
+
+class Making:
+    """A checkout on the way to what is uploaded to a target."""
+
+    def __init__(self, folder: str, target: Target, how: How, shows: Shows) -> None:
+        """Looks which commit it's of, and says where that can't be known. Raises BadCall."""
+        self.folder, self.target, self.how, self.shows = folder, target, how, shows
+        self.is_set, self.profile = how.is_set or target.is_set, how.profile
+        self.where, self.outcome, self.left_out = uri_of(folder, []), Outcome(), list[Row]()
+        self.recorded: Optional[Prepared] = None
+        self.commit, fault = indexed_at(folder, how.revision)
+        self.looks_again = not fault
+        if fault:
+            shows.warn(fault)
+
+    def make(self, work: str) -> Made:
+        """Makes all in a folder, and checks it. Raises Refused, BadCall and NotADump."""
+        raw, bodies, files = self.raw_dump(work), list[Body](), None
+        if raw:
+            dump = self.prepared_dump(raw, work)
+            self.profile = self.profile or profile_of(dump)
+            bodies.append(Body(self.target.project, "lsif", dump, self.profile))
+        elif not self.how.no_index:
+            self.left_out.append(Row("dump", None, MISSING["lsif"]))
+        tags = "" if self.how.no_tags else self.tags(work, bool(raw) or self.how.no_index)
+        if tags:
+            bodies.append(Body(self.target.project, "tags", tags, None))
+        if raw:
+            self.look_again()
+        if not bodies:
+            nothing = "no indexer is known for what is here, and there are no tags"
+            raise BadCall(f"{self.folder}: {nothing}")
+        if self.is_set:
+            if not raw:
+                raise BadCall("a set is made of a dump: there is none")
+            files = self.split(dump, tags, os.path.join(work, "set"))
+            bodies = [*self.parts(files), *self.surface(files, dump)]
+            self.outcome = files.reading if is_scip(dump) else self.outcome
+        self.check(bodies)
+        rows = (*rows_of(self.outcome, self.profile), *self.left_out)
+        return Made(tuple(bodies), files, self.where, self.commit, rows)
+
+    def raw_dump(self, work: str) -> str:
+        """The file with the dump or the index of the checkout, which was given or is written now;
+        empty where there's none to be had."""
+        if self.how.dump or self.how.no_index:
+            return "" if self.how.no_index else self.how.dump
+        line = self.how.index
+        if not line:
+            indexer = named(self.how.indexer) if self.how.indexer else fitting(self.folder)
+            if indexer is None:
+                return ""
+            line = indexer.line
+        self.shows.begin(f"indexed by {line}")
+        path = indexed(line, self.folder, self.target.project, work, self.shows)
+        self.shows.end(f"{os.path.getsize(path)} bytes")
+        return path
+
+    def prepared_dump(self, raw: str, work: str) -> str:
+        """The file of the dump that is uploaded, which is a set's where it's too large for one
+        project. An index that becomes a set is split itself, but where a surface is made of the
+        dump too."""
+        is_split = is_scip(raw) and not self.target.servers
+        if self.is_set and is_split and not self.how.without:
+            with opened_dump(raw) as source:
+                root = "" if isinstance(source, Source) else source.metadata.project_root
+            self.where = folder_address(root) or self.where
+            return raw
+        dump = os.path.join(work, "dump.lsif")
+        outcome = self.prepare(raw, dump)
+        self.is_set = self.is_set or bool(outcome.over)
+        is_over = not self.is_recorded(dump) or bool(outcome.over)
+        self.is_set = self.is_set or is_over
+        if is_over and is_split:
+            return raw
+        self.outcome = outcome
+        return dump
+
+    def prepare(self, raw: str, out: str) -> Outcome:
+        """Writes the dump that the server takes of a dump or an index."""
+        with opened_dump(raw) as source:
+            if isinstance(source, Source):
+                profile = self.profile or "2"
+                options = Options(
+                    strip=True, without=self.how.without, reports=True, profile=profile
+                )
+                outcome = prepare(source, out, options, self.shows).outcome
+            elif self.how.without:
+                raise BadCall("--without is for dumps, and this is a SCIP index")
+            else:
+                from codenav.dumps.scip.conversion import convert
+
+                outcome = convert(source, out, ScipOptions(self.folder), self.shows).outcome
+        for note in outcome.notes:
+            if note.kind == MENDED:
+                self.shows.warn(str(note))
+        if any(excess.code == "L01" for excess in outcome.over):
+            raise Refused("\n".join(map(str, outcome.over)))
+        return outcome
+
+    def is_recorded(self, path: str) -> bool:
+        """Adds to a dump, unless it becomes a set, of which revision it is; says whether it's within
+        the limits of the server then. A dump that has a record keeps it, and is of that revision.
+
+        Raises BadCall where the call names another one.
+        """
+        dump = Prepared(path)
+        self.where = dump.root or self.where
+        if dump.is_recorded:
+            own, self.looks_again = dump.record.revision if dump.record else "", False
+            if self.how.revision and own != self.commit:
+                of = f"revision {own}" if own else "no revision"
+                said = f"the dump says itself that it's of {of}, and not of {self.how.revision}"
+                raise BadCall(said)
+            self.commit = own
+        if self.is_set or dump.is_recorded:
+            return True
+        self.recorded = dump if dump.add(new_record(self.commit, self.where)) else None
+        return self.recorded is not None
+
+    def look_again(self) -> None:
+        """Has the index be of no revision where the checkout changed while it was made, but where
+        the call or the dump names one; says so."""
+        if not self.looks_again:
+            return
+        self.commit, fault = still_indexed_at(self.folder, self.commit, self.how.revision)
+        if not fault:
+            return
+        self.shows.warn(fault)
+        if self.recorded is not None:
+            self.recorded.add(new_record(self.commit, self.where))
+
+    def tags(self, work: str, may_be_empty: bool) -> str:
+        """The tags file of the checkout; empty where there's none."""
+        if not shutil.which("ctags"):
+            self.left_out.append(Row("tags", None, MISSING["tags"]))
+            return ""
+        path = os.path.join(work, "tags")
+        self.shows.begin("tags by ctags")
+        count, left_out = tagged(self.folder, path, self.is_set)
+        self.shows.end(f"{count} tags")
+        self.left_out += [
+            Row("tags", number, TAGS_LEFT_OUT[code]) for code, number in sorted(left_out.items())
+        ]
+        return path if count or may_be_empty else ""
+
+    def split(self, dump: str, tags: str, folder: str) -> SetFiles:
+        """Splits a dump or an index and the tags into the parts of a set, which keeps the cuts of
+        the set on the server. Raises Refused."""
+        name, maps = set_name(self.target.project), (map_words(self.where, self.folder),)
+        if not self.how.dry:
+            fetch_cuts(Store(self.target.home), name, folder)
+        options = SplitOptions(name, self.profile, self.commit, maps, tags, self.folder)
+        with opened_dump(dump) as source:
+            given: Union[str, IndexFile] = dump if isinstance(source, Source) else source
+            try:
+                return split(given, options, folder, self.shows, ScipOptions(self.folder))
+            except (BadCall, NotADump) as fault:
+                raise Refused(str(fault)) from None
+
+    def parts(self, files: SetFiles) -> Iterator[Body]:
+        """The parts of a set."""
+        for project in files.head.projects():
+            for part, path in files_of(files.folder, project).items():
+                yield Body(project, part, path, self.profile if part == "lsif" else None)
+
+    def surface(self, files: SetFiles, dump: str) -> list[Body]:
+        """Makes the surface of a dump where there are several servers, in a folder of its own
+        beside its parts; answers its parts."""
+        if not self.target.servers:
+            return []
+        own = os.path.join(files.folder, "surface")
+        surface = made_surface(dump, files.head.name, self.profile, own, self.shows)
+        keep_surface(files.folder, surface)
+        return [
+            Body(part.project, "lsif", surface_file(own, part.project), self.profile)
+            for part in surface.parts
+        ]
+
+    def check(self, bodies: list[Body]) -> None:
+        """Checks what is uploaded, where the program is at hand. Raises Refused."""
+        program = Program.found(self.how.program)
+        if program is None:
+            text = "not checked before the upload, for the program isn't at hand (--program)"
+            self.shows.warn(text)
+            return
+        for body in bodies:
+            self.shows.begin(f"checked {body.part}")
+            is_accepted, said = program.check(body.part, body.path, self.profile)
+            if not is_accepted:
+                raise refusal(body, said)
+            self.shows.end(said)

@@ -1,0 +1,133 @@
+"""Uploads what was made of a checkout, or what files have."""
+
+import io
+import os
+from dataclasses import dataclass
+from io import BufferedReader
+from typing import IO, Any, BinaryIO, NamedTuple, Optional, cast
+
+from codenav.client.http import Answer, found_in, refusal_of, reply_in
+from codenav.client.projects import fresh_key, put
+from codenav.dumps.lsif.reading import Source
+from codenav.dumps.tables import rows
+from codenav.faults import BadCall, NotADump
+from codenav.outcome import Excess
+from codenav.progress import Shows
+from codenav.publishing.made import Body, Made, Refused
+from codenav.publishing.target import Target
+from codenav.sets.publish.publish import Publish, Report, remove_set
+from codenav.sets.publish.spread import Spread
+from codenav.sets.publish.store import Store
+
+
+@dataclass(frozen=True)
+class Accepted:
+    """A body that the server accepted: of so many elements or tags."""
+
+    project: str
+    part: str
+    count: int
+    profile: Optional[str]
+
+
+class Sent(NamedTuple):
+    """What was uploaded: bodies of a project, and how many parts its set had that was there, or a
+    set; `lacking` are the sets elsewhere that it's joined to, whose surfaces its home hasn't."""
+
+    accepted: tuple[Accepted, ...] = ()
+    removed: int = 0
+    report: Optional[Report] = None
+    lacking: tuple[str, ...] = ()
+
+
+class Watched(io.FileIO):
+    """A file to read, whose reading is shown."""
+
+    def __init__(self, path: str, shows: Shows) -> None:
+        super().__init__(path)
+        self.shows = shows
+
+    def readinto(self, room: Any) -> int:
+        """Reads the next bytes."""
+        count = super().readinto(room) or 0
+        self.shows.at(self.tell())
+        return count
+
+
+def is_want_of_memory(answer: Answer) -> bool:
+    """Whether the server said that it hasn't the memory."""
+    reply = reply_in(answer)
+    return answer.status == 503 and reply is not None and reply.get("fault") == "S02"
+
+
+def excesses(body: IO[bytes], name: str, profile: str) -> list[Excess]:
+    """The limits of rows that a dump goes over, for which the server refuses it as for want of
+    memory however often it's sent."""
+    counter = rows.RowCounter(profile)
+    try:
+        for row in Source(cast(BinaryIO, body), name).rows():
+            counter.take(row.element)
+    except NotADump:
+        return []
+    return rows.excesses(counter.tallies())
+
+
+def put_body(
+    server: str, body: Body, file: IO[bytes], key: str, retry: bool
+) -> tuple[Answer, list[Excess]]:
+    """Uploads a body, which a file has; answers what came, and the limits for which it can never be
+    accepted. A dump over these isn't sent again."""
+    over: list[Excess] = []
+
+    def is_final(answer: Answer) -> bool:
+        if body.part == "lsif" and not over and is_want_of_memory(answer):
+            over.extend(excesses(file, body.path, body.profile or "1"))
+        return bool(over)
+
+    answer = put(server, body.project, body.part, file, key, body.profile, retry, is_final)
+    return answer, over if is_final(answer) else []
+
+
+def send_body(server: str, body: Body, shows: Shows) -> Accepted:
+    """Uploads a body, again where no answer comes. Raises Refused and BadCall."""
+    size = os.path.getsize(body.path)
+    shows.begin(f"uploaded {body.part}", size)
+    with BufferedReader(Watched(body.path, shows), 1 << 16) as file:
+        answer, over = put_body(server, body, file, fresh_key(body.part), True)
+    if reply_in(answer) is None:
+        raise BadCall(refusal_of(answer))
+    if answer.status != 200:
+        raise Refused("\n".join([refusal_of(answer), *map(str, over)]))
+    shows.end(f"{size} bytes")
+    return Accepted(body.project, body.part, found_in(answer, "count"), body.profile)
+
+
+def publish_of(target: Target, folder: str) -> Publish:
+    """What publishes the set in a folder: at the one server, or at its home and with its surface
+    elsewhere."""
+    home = Store(target.home)
+    if not target.servers:
+        return Publish(home, folder, in_place_of_project=True)
+    return Spread(
+        home,
+        folder,
+        in_place_of_project=True,
+        others=[Store(other) for other in target.servers if other != target.home],
+        surface=os.path.join(folder, "surface"),
+        front=Store(target.front) if target.front else None,
+        only_joined=target.only_joined,
+    )
+
+
+def send(made: Made, target: Target, shows: Shows) -> Sent:
+    """Uploads what was made, each in the place of the other: a set in that of a project, and a
+    project that has become small enough in that of its set. Raises Refused and BadCall."""
+    if made.files is None:
+        accepted = tuple(send_body(target.home, body, shows) for body in made.bodies)
+        return Sent(accepted, remove_set(Store(target.home), target.project))
+    publish = publish_of(target, made.files.folder)
+    shows.begin("published parts")
+    report = publish.run()
+    shows.end(report.line())
+    lacking = tuple(publish.lacking) if isinstance(publish, Spread) else ()
+    return Sent(report=report, lacking=lacking)

@@ -1,0 +1,58 @@
+"""Where a checkout is published."""
+
+from dataclasses import dataclass
+
+from codenav.client.http import address, found_in, request_again
+from codenav.faults import BadCall
+from codenav.names import project_of, server_of, set_name
+from codenav.sets.ring import home_of, named_in_front
+from codenav.sets.surface.made import surface_name
+
+
+@dataclass(frozen=True)
+class Target:
+    """A project of a server, or a set. With several servers it's a set: `server` is their front, or
+    one of them; the set is at its home, and its surface on the others, or with `only_joined` on
+    those alone that have a set with a package in common."""
+
+    server: str
+    project: str
+    servers: tuple[str, ...] = ()
+    only_joined: bool = False
+
+    @property
+    def is_set(self) -> bool:
+        """Whether it's a set whatever its size."""
+        return bool(self.servers) or "@" in self.project
+
+    @property
+    def home(self) -> str:
+        """The server that gets it."""
+        return home_of(self.servers, set_name(self.project)) if self.servers else self.server
+
+    @property
+    def front(self) -> str:
+        """The front of several servers, empty where one of them is named."""
+        is_front = named_in_front(self.server) not in map(named_in_front, self.servers)
+        return self.server if is_front else ""
+
+    def reach(self) -> None:
+        """Asks each server for its projects. Raises NoReply where one doesn't answer."""
+        for server in self.servers or (self.server,):
+            found_in(request_again(address(server, "/projects", {}), "GET"), "projects")
+
+
+def target_at(
+    url: str, project: str, servers: tuple[str, ...], only_joined: bool, is_set: bool
+) -> Target:
+    """The target of a call. Raises BadCall."""
+    if only_joined and not servers:
+        raise BadCall("--servers-that-join takes --servers, or `servers` in the settings")
+    target = Target(server_of(url), project, servers, only_joined)
+    if servers:
+        surface_name(set_name(project))
+    if is_set or target.is_set:
+        set_name(project)
+    else:
+        project_of(project)
+    return target

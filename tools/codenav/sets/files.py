@@ -1,0 +1,127 @@
+"""The files of a set in a folder: its manifest, and beside it the dumps and the tags of its parts."""
+
+import os
+import re
+from typing import Sequence
+from urllib.parse import quote
+
+from codenav.addresses import serialized
+from codenav.faults import BadCall
+from codenav.files import whole_file
+from codenav.sets.manifest import (
+    ABOUT,
+    DOCUMENT,
+    PARTS,
+    DocumentEntry,
+    Head,
+    ListEntry,
+    NotAManifest,
+    Tag,
+    document_lines,
+    fields_of,
+    head_lines,
+    head_of,
+    listed,
+    needs_lists,
+    part_name,
+    tag_of,
+    tags_text,
+)
+from codenav.texts.places import KEPT, Maps, uri_of
+
+MANIFEST = "manifest.tags"
+
+
+def tags_in(path: str) -> list[Tag]:
+    """The tags of a file that was written here; raises NotAManifest."""
+    try:
+        with open(path, encoding="utf-8", newline="\n") as file:
+            return [tag_of(line) for line in file if not line.startswith("!_TAG_")]
+    except ValueError:
+        raise NotAManifest(f"{path} isn't the manifest of a set") from None
+
+
+def read_head(path: str) -> Head:
+    """The head that a manifest's file has; raises NotAManifest."""
+    about = [tag for tag in tags_in(path) if tag["name"][:1] == ABOUT]
+    names = [tag["file"] for tag in about if tag["name"] == f"{ABOUT}set"]
+    head = head_of(about, f"{names[0] if names else ''}{PARTS}")
+    if head is None:
+        raise NotAManifest(f"{path} isn't the manifest of a set")
+    return head
+
+
+def with_head(path: str, head: Head) -> bytes:
+    """What a manifest's file has, with another head."""
+    with open(path, "rb") as file:
+        lines = [line.decode() for line in file if not line.startswith((b"!_TAG_", rb"\x02"))]
+    return tags_text([*head_lines(head), *lines])
+
+
+def read_documents(path: str, head: Head) -> list[DocumentEntry]:
+    """The documents that a manifest's file has, or the files of its lists beside it; raises
+    NotAManifest."""
+    folder = os.path.dirname(path)
+    paths = [os.path.join(folder, f"{one.project}.tags") for one in head.lists] or [path]
+    return [
+        DocumentEntry(tag["name"][1:], tag["file"], fields_of(tag).get("text", ""))
+        for own in paths
+        for tag in tags_in(own)
+        if tag["name"][:1] == DOCUMENT
+    ]
+
+
+def part_file(folder: str, file: str, maps: Maps) -> str:
+    """The dump of the part that has the document of a file, or the one document whose address is
+    `file` or ends with it; raises BadCall."""
+    path = os.path.join(folder, MANIFEST)
+    documents = read_documents(path, read_head(path))
+    uri, end = serialized(uri_of(file, maps)), "/" + quote(os.path.normpath(file), safe=KEPT)
+    own = [one for one in documents if one.uri == uri]
+    near = [one for one in documents if one.uri == file or one.uri.endswith(end)]
+    if len(own or near) != 1:
+        raise BadCall(f"{file} is {len(near)} of the {len(documents)} documents of {folder}")
+    return os.path.join(folder, f"{(own or near)[0].project}.lsif")
+
+
+def files_of(folder: str, project: str) -> dict[str, str]:
+    """The files of a part: its dump, its tags or both; raises BadCall where there is none."""
+    paths = {part: os.path.join(folder, f"{project}.{part}") for part in ("lsif", "tags")}
+    found = {part: path for part, path in paths.items() if os.path.isfile(path)}
+    if not found:
+        raise BadCall(f"{paths['lsif']}: no such part; split the dump again")
+    return found
+
+
+def put_file(path: str, body: bytes) -> None:
+    """Writes a file whole."""
+    with whole_file(path) as out:
+        out.write(body)
+
+
+def put_manifest(folder: str, head: Head, documents: Sequence[DocumentEntry]) -> Head:
+    """Writes the manifest, and before it lists of documents where they are too many for one
+    file."""
+    lines: list[str] = []
+    if needs_lists(len(documents), len(head.parts)):
+        lists = []
+        for first, body in listed(documents):
+            project = part_name(head.name, body)
+            put_file(os.path.join(folder, f"{project}.tags"), body)
+            lists.append(ListEntry(project, first))
+        head = head._replace(lists=tuple(lists))
+    else:
+        lines = document_lines(documents)
+    put_file(os.path.join(folder, MANIFEST), tags_text([*head_lines(head), *lines]))
+    return head
+
+
+def drop_others(folder: str, head: Head) -> None:
+    """Removes the parts of the set that the manifest doesn't name, and what an interrupted call
+    left."""
+    named = set(head.projects())
+    form = re.compile(rf"({re.escape(head.name)}-[0-9a-f]{{16}})\.(lsif|tags)(\.[0-9]+\.new)?")
+    for file in os.listdir(folder):
+        found = form.fullmatch(file)
+        if found is not None and (found[1] not in named or found[3]):
+            os.unlink(os.path.join(folder, file))

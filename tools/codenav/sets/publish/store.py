@@ -1,0 +1,65 @@
+"""The requests of a publish to a server."""
+
+import io
+import secrets
+from contextlib import contextmanager
+from typing import Any, Iterator, Optional
+
+from codenav.client.http import address, found_in, refusal_of, request, request_again
+from codenav.faults import NoReply
+from codenav.sets.manifest import ABOUT, PARTS, Head, head_of
+
+
+class Store:
+    """The requests of a publish to a server."""
+
+    def __init__(self, server: str, retry: bool = True) -> None:
+        self.server, self.retry = server, retry
+
+    def found(self, path: str, parameters: dict[str, Any], member: str) -> Any:
+        """What a query finds."""
+        return found_in(request(address(self.server, path, parameters)), member)
+
+    def change(self, method: str, path: str, parameters: dict[str, Any], body: bytes) -> None:
+        """Makes a change; raises NoReply where it isn't made, and a repeated one is made once."""
+        url = address(self.server, path, parameters)
+        content = io.BytesIO(body) if method == "PUT" else None
+        answer = request_again(url, method, content, self.retry)
+        if answer.status != 200:
+            raise NoReply(refusal_of(answer))
+
+    def put(self, project: str, part: str, body: bytes, key: str, profile: str = "1") -> None:
+        """Puts the dump or the tags of a project."""
+        parameters = {"key": key, **({"profile": profile} if profile != "1" else {})}
+        self.change("PUT", f"/projects/{project}/{part}", parameters, body)
+
+    def remove(self, project: str) -> None:
+        """Removes a project."""
+        self.change("DELETE", f"/projects/{project}", {"key": secrets.token_hex(16)}, b"")
+
+    def projects(self) -> dict[str, set[str]]:
+        """The projects of the server, each with the parts that it has: `lsif`, `tags`."""
+        with self.understood():
+            return {
+                one["name"]: {
+                    part for part, there in (("lsif", one["dump"]), ("tags", one["tags"])) if there
+                }
+                for one in self.found("/projects", {}, "projects")
+            }
+
+    @contextmanager
+    def understood(self) -> Iterator[None]:
+        """Has a reply without what is looked for in it be a fault of the server."""
+        try:
+            yield
+        except (KeyError, TypeError, AttributeError):
+            text = f"{self.server}: not a reply of codenav as these tools know it"
+            raise NoReply(text) from None
+
+    def tags(self, project: str, prefix: str) -> list[dict[str, Any]]:
+        """The tags of a project whose names begin with a text."""
+        return list(self.found("/names", {"prefix": prefix, "project": project}, "tags"))
+
+    def head(self, name: str) -> Optional[Head]:
+        """What the manifest of a set says, or None where there is none; raises NotAManifest."""
+        return head_of(self.tags(name + PARTS, ABOUT), name + PARTS)

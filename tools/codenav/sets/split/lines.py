@@ -1,0 +1,148 @@
+"""The elements of a part or a surface: counted, or written as lines of a dump."""
+
+from __future__ import annotations
+
+import json
+from array import array
+from typing import Any, BinaryIO, Protocol, Sequence
+
+from codenav.dumps.tables.disk_arrays import Numbers
+
+MOST_ENDS = 20_000
+ELEMENT_BYTES = 64
+RANGE_BYTES = 150
+ROLE_NAMES = ("definitions", "references")
+
+
+def as_text(value: Any) -> str:
+    """A value as JSON."""
+    return json.dumps(value, ensure_ascii=False, separators=(",", ":"))
+
+
+class Tables(Protocol):
+    """Where ranges stand, and where hovers are in the dump: tables of a graph, or flat ones."""
+
+    start: Numbers
+    end: Numbers
+    hover_at: array[int]
+    hover_bytes: array[int]
+
+
+class Counter:
+    """Counts the elements of a part, and at most how many bytes and rows they are."""
+
+    def __init__(self, flat: Tables) -> None:
+        self.flat = flat
+        self.count = 0
+        self.bytes = 0
+        self.items = 0
+
+    def vertex(self, label: str, more: str = "") -> int:
+        """A vertex; answers its id."""
+        self.count += 1
+        self.bytes += ELEMENT_BYTES + len(label) + (len(more) if more.isascii() else 3 * len(more))
+        return self.count
+
+    def edge(self, label: str, source: int, target: int) -> int:
+        """An edge; answers its id."""
+        self.count += 1
+        self.bytes += ELEMENT_BYTES + len(label) + 16
+        return self.count
+
+    def edges(self, label: str, source: int, targets: Sequence[int], more: str = "") -> None:
+        """As few edges as may be from one vertex to several."""
+        edges = -(-len(targets) // MOST_ENDS)
+        self.count += edges
+        self.bytes += edges * (2 * ELEMENT_BYTES + len(more)) + 8 * len(targets)
+        self.items += len(targets)
+
+    def ranges(self, ranks: Sequence[int]) -> int:
+        """Ranges; answers the id of the first, which the others' follow."""
+        self.count += len(ranks)
+        self.bytes += RANGE_BYTES * len(ranks)
+        return self.count - len(ranks) + 1
+
+    def nexts(self, pairs: Sequence[tuple[int, int]]) -> None:
+        """`next` edges, each from one vertex to another."""
+        self.count += len(pairs)
+        self.bytes += (ELEMENT_BYTES + 20) * len(pairs)
+
+    def hover(self, result: int) -> int:
+        """A hover; answers its id."""
+        self.count += 1
+        self.bytes += ELEMENT_BYTES + 6 * self.flat.hover_bytes[result]
+        return self.count
+
+    def package(self, package: tuple[str, str, str]) -> int:
+        """What is said of a package; answers its id."""
+        manager, name, version = package
+        members = (
+            f',"manager":{as_text(manager)},"name":{as_text(name)},"version":{as_text(version)}'
+        )
+        return self.vertex("packageInformation", members)
+
+
+class Lines(Counter):
+    """Keeps the lines of a part's elements. Hovers are read from the dump."""
+
+    def __init__(self, flat: Tables, dump: BinaryIO) -> None:
+        super().__init__(flat)
+        self.dump = dump
+        self.lines: list[str] = []
+
+    def vertex(self, label: str, more: str = "") -> int:
+        """A vertex; answers its id."""
+        self.count += 1
+        self.lines.append(f'{{"id":{self.count},"type":"vertex","label":"{label}"{more}}}')
+        return self.count
+
+    def edge(self, label: str, source: int, target: int) -> int:
+        """An edge; answers its id."""
+        self.count += 1
+        ends = f'"outV":{source},"inV":{target}'
+        self.lines.append(f'{{"id":{self.count},"type":"edge","label":"{label}",{ends}}}')
+        return self.count
+
+    def edges(self, label: str, source: int, targets: Sequence[int], more: str = "") -> None:
+        """As few edges as may be from one vertex to several."""
+        for at in range(0, len(targets), MOST_ENDS):
+            self.count += 1
+            ends = ",".join(map(str, targets[at : at + MOST_ENDS]))
+            self.lines.append(
+                f'{{"id":{self.count},"type":"edge","label":"{label}","outV":{source},"inVs":[{ends}]{more}}}'
+            )
+
+    def ranges(self, ranks: Sequence[int]) -> int:
+        """Ranges; answers the id of the first, which the others' follow."""
+        starts, ends, add = self.flat.start, self.flat.end, self.lines.append
+        first = own = self.count + 1
+        for rank in ranks:
+            start, end = starts[rank], ends[rank]
+            add(
+                f'{{"id":{own},"type":"vertex","label":"range",'
+                f'"start":{{"line":{start >> 31},"character":{start & 2147483647}}},'
+                f'"end":{{"line":{end >> 31},"character":{end & 2147483647}}}}}'
+            )
+            own += 1
+        self.count = own - 1
+        return first
+
+    def nexts(self, pairs: Sequence[tuple[int, int]]) -> None:
+        """`next` edges, each from one vertex to another."""
+        first = self.count + 1
+        self.lines += [
+            f'{{"id":{own},"type":"edge","label":"next","outV":{source},"inV":{target}}}'
+            for own, (source, target) in enumerate(pairs, first)
+        ]
+        self.count += len(pairs)
+
+    def hover(self, result: int) -> int:
+        """A hover; answers its id."""
+        contents = as_text(hover_contents(self.flat, self.dump, result))
+        return self.vertex("hoverResult", f',"result":{{"contents":{contents}}}')
+
+
+def hover_contents(flat: Tables, dump: BinaryIO, result: int) -> Any:
+    """The contents of a hover, read from the dump."""
+    dump.seek(flat.hover_at[result])
+    return json.loads(dump.read(flat.hover_bytes[result]))["result"]["contents"]

@@ -1,0 +1,80 @@
+"""Makes the surface of a set in a folder of its own, in parts where it's over the server's limits."""
+
+import os
+from typing import NamedTuple
+
+from codenav.faults import BadCall
+from codenav.limits import MOST_ELEMENTS, excesses
+from codenav.names import set_name
+from codenav.progress import Shows
+from codenav.sets.files import MANIFEST, put_file, read_head, with_head
+from codenav.sets.manifest import SURFACE, PartEntry, part_name
+from codenav.sets.split.split import SplitOptions, split, uncollected
+from codenav.sets.surface.surface import write_surface
+
+MOST_NAME = 39
+
+
+def surface_name(name: str) -> str:
+    """The set that the surface of a set is; raises BadCall where the name is too long for it, or is
+    that of a surface."""
+    if name.endswith(SURFACE):
+        raise BadCall(
+            f"on several servers a set's name doesn't end with {SURFACE}, as {name!r} does"
+        )
+    if len(name) > MOST_NAME:
+        raise BadCall(
+            f"on several servers a set's name has at most {MOST_NAME} characters, not {name!r}"
+        )
+    return set_name(name + SURFACE)
+
+
+class SurfaceFiles(NamedTuple):
+    """A surface that was made: its parts, and the packages that the dump is joined by."""
+
+    parts: tuple[PartEntry, ...]
+    packages: tuple[str, ...]
+
+    def elements(self) -> int:
+        """How many elements its parts have."""
+        return sum(part.elements for part in self.parts)
+
+
+def made_surface(
+    dump: str, name: str, profile: str, folder: str, shows: Shows, most: int = MOST_ELEMENTS
+) -> SurfaceFiles:
+    """Writes the surface of a prepared dump into a folder, in parts of so many elements at most
+    where it's over the limits, and removes what's left there of another one. Raises BadCall and
+    NotADump."""
+    os.makedirs(folder, exist_ok=True)
+    whole = os.path.join(folder, "whole.lsif")
+    with uncollected():
+        _, surface = write_surface(dump, profile, whole, shows)
+    count = surface.lines.count
+    parts: tuple[PartEntry, ...] = ()
+    if surface.bearers and (count > most or excesses(count, surface.bytes, surface.longest)):
+        options = SplitOptions(surface_name(name), profile, elements=most)
+        parts = split(whole, options, folder, shows).head.parts
+    elif surface.bearers:
+        with open(whole, "rb") as file:
+            project = part_name(surface_name(name), file.read(), profile)
+        os.replace(whole, surface_file(folder, project))
+        parts = (PartEntry(project, count, ""),)
+    named = {surface_file(folder, part.project) for part in parts}
+    for own in os.listdir(folder):
+        path = os.path.join(folder, own)
+        if own.endswith(".lsif") and path not in named:
+            os.unlink(path)
+    return SurfaceFiles(parts, surface.joined_packages())
+
+
+def surface_file(folder: str, project: str) -> str:
+    """The file of a part of a surface in its folder."""
+    return os.path.join(folder, f"{project}.lsif")
+
+
+def keep_surface(folder: str, surface: SurfaceFiles) -> None:
+    """Writes into the manifest of a set's folder what its surface is."""
+    path = os.path.join(folder, MANIFEST)
+    head = read_head(path)._replace(surface=surface.parts, packages=surface.packages)
+    put_file(path, with_head(path, head))
