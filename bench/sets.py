@@ -260,7 +260,7 @@ def split(name: str, path: str, own: str, pid: int) -> None:
 def published(name: str, url: str, own: str, pid: int) -> None:
     """Publishes what is in a folder."""
     with stage(f"{name}, published", pid) as used:
-        called(used, "publish-set", url, own)
+        called(used, "upload", url, own)
 
 
 def changed(large: str, own: str, uri: str, pid: int) -> str:

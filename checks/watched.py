@@ -15,6 +15,7 @@ TOP = Path(__file__).resolve().parent.parent
 sys.path.insert(0, str(TOP / "tools"))
 
 from codenav.program import free_port
+from tests.servers import command
 
 SECONDS = 60
 FIRST_LINES = "!_TAG_FILE_FORMAT\t2\t//\n!_TAG_FILE_SORTED\t1\t//\n"
@@ -23,7 +24,7 @@ APART = 8
 
 def tool(word: str, *words: str) -> list[str]:
     """The words of a call of a tool."""
-    return [sys.executable, "-B", str(TOP / "tools" / word), *words]
+    return [*command(word), *words]
 
 
 class Wrong(Exception):

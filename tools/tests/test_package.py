@@ -16,8 +16,8 @@ from contextlib import redirect_stderr, redirect_stdout
 import tomllib
 
 from codenav import VERSION
-from codenav.cli.main import TOOLS, main, usage
-from codenav.program import NONE, PACKAGED, WORDS
+from codenav.cli.main import OWN, TOOLS, main, usage
+from codenav.program import NONE, PACKAGED
 from tests.packages import needs
 from tests.servers import BUILT, SECONDS, TOP, OnServer, built_program, command
 
@@ -34,11 +34,11 @@ def files_of(folder: str) -> set[str]:
 
 class OneCommand(unittest.TestCase):
     def test_each_tool(self) -> None:
-        for name, tool in TOOLS.items():
+        for name in TOOLS:
             with self.subTest(name), redirect_stdout(io.StringIO()) as said:
                 with self.assertRaises(SystemExit) as end:
                     main([name, "--help"])
-            words = ["usage:", "codenav", name] if tool.command else ["usage:", name]
+            words = ["usage:", "codenav", name]
             self.assertEqual(
                 (end.exception.code, said.getvalue().split()[: len(words)]), (0, words)
             )
@@ -46,7 +46,7 @@ class OneCommand(unittest.TestCase):
     def test_help_is_one_screen(self) -> None:
         lines = usage().splitlines()
         self.assertLessEqual((len(lines), max(map(len, lines))), (24, 80))
-        for word in WORDS:
+        for word in OWN:
             self.assertIn(f"\n  {word} ", usage())
 
     def test_version(self) -> None:
@@ -94,7 +94,7 @@ class OneCommand(unittest.TestCase):
             with open(path, "w", encoding="utf-8") as out:
                 out.write('#!/bin/sh\necho "$@"\nexit 7\n')
             os.chmod(path, 0o755)
-            for word in WORDS:
+            for word in OWN:
                 status, said, _ = self.called(word, "--x", "y z", CODENAV_PROGRAM=path)
                 self.assertEqual((status, said), (7, f"{word} --x y z\n"))
             # a script of the name may be these tools again
