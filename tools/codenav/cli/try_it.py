@@ -11,6 +11,7 @@ from codenav.asking.by_name import BEGINNINGS
 from codenav.cli.command import Command
 from codenav.faults import Failed
 from codenav.program import TOP, Program, Running, build, free_port
+from codenav.texts.git import top_of
 
 DUMP, TAGS = "demo/crate.raw.lsif", "demo/crate.tags"
 REQUESTS, REPLIES = "demo/each_route.http", "demo/each_route.replies"
@@ -65,6 +66,9 @@ def steps(url: str, dump: str) -> list[Step]:
     upload = ["upload", "--retry", *project, dump]
     at_definition, uses = ":".join(AT_DEFINITION), ":".join(DEFINITION[1:])
 
+    # of files in a checkout the revision is asked too
+    for_names = 2 if top_of(os.path.join(TOP, "demo")) else 1
+
     def asked(words: list[str], output: str) -> Step:
         # with the revision, which the dump doesn't keep
         return Step([*ask, *words], f"{NOT_MAPPED}\n{output}", requests=2)
@@ -76,7 +80,7 @@ def steps(url: str, dump: str) -> list[Step]:
         asked(["references", *AT_DEFINITION], f"{uses}\n{at_definition}"),
         asked(["hover", *AT_DEFINITION], HOVER),
         Step(["upload", "--retry", *project, TAGS], tagged),
-        Step(["ask", "--tags", FOLDER, *project, "names", "is_warm"], TAG),
+        Step(["ask", "--tags", FOLDER, *project, "names", "is_warm"], TAG, requests=for_names),
         Step(["list", url], "temperature: dump and tags"),
         Step(["remove", *project], "temperature: removed"),
         # where there's no such project it asks for a set of that name and for tags too
