@@ -118,8 +118,8 @@ def indexed(url: str, folder: str) -> tuple[str, list[str]]:
         dump = os.path.join(folder, ".git", "dump.lsif")
         if not os.path.isdir(os.path.dirname(dump)):
             git_in(folder, "init", "-q")
-        call("prepare-lsif", os.path.join(TOP, "demo", f"{name}.raw.lsif"), dump)
-        call("upload-lsif", url, project, dump)
+        call("prepare", os.path.join(TOP, "demo", f"{name}.raw.lsif"), dump)
+        call("upload", url, project, dump)
     git_in(folder, "add", "-A")
     git_in(folder, "commit", "-qm", "indexed")
     return git_in(folder, "rev-parse", "HEAD"), ["--map", f"file:///src/tr={folder}"]
@@ -316,7 +316,7 @@ def print_times(program: str) -> int:
             git_in(folder, "add", "a.rs")
             git_in(folder, "commit", "-qm", "indexed")
             write(dump, dump_of(uri_of(path, []), length))
-            call("upload-lsif", url, "app", dump)
+            call("upload", url, "app", dump)
             lines = text.split("\n")
             changed = "\n".join(
                 line if at % 50 else f"// another line {at}\n{line}"

@@ -16,7 +16,7 @@ from typing import Callable
 from servers import ask
 from watched import Lines
 
-from codenav.program import serving
+from codenav.program import Program
 
 PROJECTS, TURNS = 2000, 15
 PATH = "/projects/caller/references?uri=file:///app.ts&line=1&character=0"
@@ -62,8 +62,7 @@ def main() -> int:
     with ExitStack() as stack:
         ports = []
         for program in programs:
-            url = stack.enter_context(serving(program, quiet=True))
-            ports.append(int(url.rpartition(":")[2]))
+            ports.append(stack.enter_context(Program(program).serve()).port)
             fill(program, ports[-1])
         for _ in range(TURNS):
             replies = []

@@ -21,7 +21,7 @@ import inputs
 from servers import TOP, spent, with_memory
 from watched import request
 
-from codenav.program import free_port, started
+from codenav.program import Program
 
 TARGETS = {
     "projects": "/projects",
@@ -82,16 +82,16 @@ def by_replay(program: str, kind: str, count: int, path: Path) -> None:
 
 def by_serve(program: str, kind: str, count: int) -> None:
     """Prints what a request costs `serve`, and what a client sees."""
-    system, port, times = bare(count), free_port(), []
-    server = started(program, port, count + 1, quiet=True)
-    ask(port, request("PUT", "/projects/app/lsif?key=k1", DUMP.read_bytes()))
+    system, times = bare(count), []
+    server = Program(program).serve(requests=count + 1)
+    ask(server.port, request("PUT", "/projects/app/lsif?key=k1", DUMP.read_bytes()))
     text = b"GET %s HTTP/1.1\r\nHost: localhost\r\n\r\n" % TARGETS[kind].encode()
     for _ in range(count):
         begin = time.perf_counter()
-        ask(port, text)
+        ask(server.port, text)
         times.append(time.perf_counter() - begin)
     _, status, usage = os.wait4(server.pid, 0)
-    server.returncode = os.waitstatus_to_exitcode(status)
+    server.process.returncode = os.waitstatus_to_exitcode(status)
     own = (usage.ru_utime + usage.ru_stime) / count
     print(
         f"serve   {kind:11} {own * 1e6:8.1f} microseconds each, of which the system takes"

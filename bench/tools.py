@@ -72,8 +72,8 @@ def main() -> int:
         os.environ.pop("PYTHONDONTWRITEBYTECODE", None)
         os.environ["PYTHONPYCACHEPREFIX"] = f"{folder}/compiled"
         dump = f"{folder}/dump"
-        made(*tool("prepare-lsif", str(TOP / "demo/crate.raw.lsif"), dump))()
-        made(*tool("upload-lsif", url, "temperature", dump))()
+        made(*tool("prepare", str(TOP / "demo/crate.raw.lsif"), dump))()
+        made(*tool("upload", url, "temperature", dump))()
         calls = calls_at(url, given.others)
         for _ in range(given.calls):
             for name, call in calls.items():

@@ -28,7 +28,7 @@ import inputs
 from servers import ask, spent, with_memory
 from watched import request
 
-from codenav.program import serving
+from codenav.program import Program
 
 COUNT = 80_000
 DUMP = 1
@@ -190,9 +190,9 @@ def main() -> None:
             print_memory(given.program, folder, part, len(body))
         beside_python(given.program, folder, given.runs)
         database = f"{folder}/again.db"
-        with serving(given.program, database=database, quiet=True) as url:
+        with Program(given.program).serve(database) as server:
             for part, body in bodies.items():
-                again(int(url.rpartition(":")[2]), part, body, given.runs)
+                again(server.port, part, body, given.runs)
 
 
 if __name__ == "__main__":

@@ -47,7 +47,7 @@ CASES = {
 def prepared(dump: str, folder: pathlib.Path) -> pathlib.Path:
     """The dump as the server accepts it."""
     out = folder / "prepared.lsif"
-    run(tool("prepare-lsif", str(TOP / dump), str(out)))
+    run(tool("prepare", str(TOP / dump), str(out)))
     return out
 
 
