@@ -1,5 +1,5 @@
 """Which definitions the promise of `replay` rests on, file by file, with their lines: what
-docs/DEFINITIONS.md says in its last part, which a test of the tools compares with this.
+docs/inside/DEFINITIONS.md says in its last part, which a test of the tools compares with this.
 
 A definition rests on each that its text names, in its file or by a `use` of it. Not counted are
 blank lines and comments, the types of the program itself (`specs.declared`), the libraries of the

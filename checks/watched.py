@@ -13,6 +13,7 @@ TOP = Path(__file__).resolve().parent.parent
 sys.path.insert(0, str(TOP / "tools"))
 
 from codenav.program import Running, free_port
+from tests.servers import command
 
 SECONDS = 60
 FIRST_LINES = "!_TAG_FILE_FORMAT\t2\t//\n!_TAG_FILE_SORTED\t1\t//\n"
@@ -21,7 +22,7 @@ APART = 8
 
 def tool(word: str, *words: str) -> list[str]:
     """What calls a word of `codenav` that is a tool's."""
-    return [sys.executable, "-B", str(TOP / "tools" / "codenav" / "__main__.py"), word, *words]
+    return [*command(word), *words]
 
 
 class Wrong(Exception):

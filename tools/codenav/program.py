@@ -14,6 +14,7 @@ from typing import Iterator, NamedTuple, Optional
 from codenav.faults import BadCall, Failed
 
 TOP = str(Path(__file__).resolve().parents[2])
+WORDS = ("check-lsif", "check-tags", "serve", "replay", "migrate")
 # where a clone has the program that it built, and a package its own, from its prefix; both are proved
 BUILT, PACKAGED = "crates/codenav/out/codenav", "libexec/codenav/codenav"
 REQUESTS = 1_000_000

@@ -3,12 +3,11 @@ with status 2, and the set answers as before."""
 
 import os
 import subprocess
-import sys
 import unittest
 
 from codenav.faults import Fault
 from codenav.sets.publish.store import Store
-from tests.servers import TOP
+from tests.servers import TOP, command
 from tests.split_files import split_file
 from tests.test_set_service import CRATE, LIB, MAP, NAME, OnFile, Revisions
 
@@ -30,8 +29,7 @@ class BadInput(OnFile):
     def launched(self, tool: str, *words: str) -> "subprocess.Popen[str]":
         """A call of a tool."""
         return subprocess.Popen(
-            [sys.executable, "-B", "-m", "codenav", tool, *words],
-            cwd=os.path.join(TOP, "tools"),
+            [*command(tool), *words],
             stdin=subprocess.DEVNULL,
             stdout=subprocess.PIPE,
             stderr=subprocess.PIPE,

@@ -14,12 +14,13 @@ from codenav.dumps.check import explain
 from codenav.dumps.dump import is_scip, opened_dump
 from codenav.dumps.lsif.reading import Source
 from codenav.dumps.prepare.plan import Options
-from codenav.dumps.prepare.prepare import WITH_EFFECT_IN_TWO, prepare
+from codenav.dumps.prepare.prepare import prepare
 from codenav.dumps.scip.options import ScipOptions
 from codenav.faults import BadCall, NotADump
 from codenav.index.indexers import fitting, indexed, named
 from codenav.index.tags_file import LEFT_OUT as TAGS_LEFT_OUT
 from codenav.index.tags_file import tagged
+from codenav.kinds import KINDS
 from codenav.names import set_name
 from codenav.outcome import MENDED, Outcome
 from codenav.program import Program
@@ -49,7 +50,7 @@ def profile_of(path: str) -> str:
     index that is split itself it isn't known."""
     if is_scip(path):
         return "2"
-    labels = [f'"{label}"'.encode() for label in WITH_EFFECT_IN_TWO["vertex"]]
+    labels = [f'"{kind.result}"'.encode() for kind in KINDS if not kind.is_of("1")]
     with open(path, "rb") as dump:
         return "2" if any(label in line for line in dump for label in labels) else "1"
 
