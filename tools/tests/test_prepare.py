@@ -43,7 +43,7 @@ class Prepare(unittest.TestCase):
     def test_a_set_of_what_is_too_large(self) -> None:
         """Without being asked, and the same as where it's asked for; its folder stays a set."""
         needs("google.protobuf", "python3-protobuf")
-        for dump, most, more in ((RAW, 190, list[str]()), (SCIP, 150, OF_SCIP)):
+        for dump, most, more in ((RAW, 190, list[str]()), (SCIP, 160, OF_SCIP)):
             self.out = os.path.join(self.folder, os.path.basename(dump))
             words = ["--name", "own", "--elements", str(most), "--jobs", "1", *more, dump, self.out]
             with mock.patch.object(limits, "MOST_ELEMENTS", most):
