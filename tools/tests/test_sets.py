@@ -16,6 +16,7 @@ from urllib.parse import quote
 
 from codenav.cli.prepare import PREPARE
 from codenav.dumps.tables import graph
+from codenav.dumps.tables.reader import read_graph
 from codenav.progress import Quiet
 from codenav.sets.split import crossing, flattening, keys
 from codenav.sets.split.crossing import Cut, Shared
@@ -34,7 +35,7 @@ Bodies = dict[str, bytes]
 def flat_of(path: str, profile: str) -> Flat:
     """The flat tables of a dump's file."""
     with open(path, "rb") as source:
-        return flattened(graph.read_graph(source, path, profile, Quiet()))
+        return flattened(read_graph(source, path, profile, Quiet()))
 
 
 def bodies_of(cut: Cut, path: str) -> list[bytes]:

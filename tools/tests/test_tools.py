@@ -19,6 +19,8 @@ from codenav.client import http as client
 from codenav.client import projects
 from codenav.client.http import Answer
 from codenav.dumps.tables import rows
+from codenav.dumps.tables.graph import Graph
+from codenav.dumps.tables.reader import Reader
 from codenav.texts import places
 from tests.servers import command, replying
 
@@ -207,10 +209,11 @@ class Prepare(unittest.TestCase):
         which another is attached twice."""
         file, span = (
             '{"type":"vertex","label":"document","uri":"file:///%s"}',
-            '{"type":"vertex","label":"range"}',
+            '{"type":"vertex","label":"range","start":{"line":0,"character":0},"end":{"line":0,"character":1}}',
         )
-        edge, moniker = (
-            '{"type":"edge","label":"%s","outV":%d,"inVs":%s}',
+        contains, edge, moniker = (
+            '{"type":"edge","label":"contains","outV":%d,"inVs":%s}',
+            '{"type":"edge","label":"%s","outV":%d,"inV":%d}',
             '{"type":"vertex","label":"moniker","scheme":"s","identifier":"%s"}',
         )
         item, result = (
@@ -228,26 +231,26 @@ class Prepare(unittest.TestCase):
             item % ("definitions", 5, [3]),
             item % ("references", 6, [4]),
             item % ("references", 5, [4]),
-            edge % ("contains", 2, [3, 4]),
+            contains % (2, [3, 4]),
         ]
         marked = [
             file,
             span,
             span,
             '{"type":"vertex","label":"resultSet"}',
-            edge % ("next", 3, [5]),
-            edge % ("next", 4, [5]),
+            edge % ("next", 3, 5),
+            edge % ("next", 4, 5),
             moniker,
-            edge % ("moniker", 5, [8]),
-            edge % ("contains", 2, [3, 4]),
+            edge % ("moniker", 5, 8),
+            contains % (2, [3, 4]),
         ]
         attached = [
             '{"type":"vertex","label":"resultSet"}',
             moniker % "a",
             moniker,
-            edge % ("moniker", 2, [3]),
-            edge % ("attach", 4, [3]),
-            edge % ("attach", 4, [3]),
+            edge % ("moniker", 2, 3),
+            edge % ("attach", 4, 3),
+            edge % ("attach", 4, 3),
         ]
         for body, number, text, wanted in (
             (ring, 0, "c", (1, 2, 6, 0, 0, 0)),
@@ -255,21 +258,12 @@ class Prepare(unittest.TestCase):
             (attached, 2, "b", (0, 0, 0, 0, 0, 2)),
         ):
             for long in ("", "u" * 300):
-                counter = rows.RowCounter("1")
+                reader = Reader("1", Graph())
                 for own, line in enumerate(body, 2):
-                    counter.take(
-                        {
-                            "id": own,
-                            **json.loads(
-                                line % (text + long)
-                                if own == number + 2
-                                else line % "f"
-                                if "%s" in line
-                                else line
-                            ),
-                        }
-                    )
-                tallies = counter.tallies()
+                    fill = text + long if own == number + 2 else "f"
+                    element = {"id": own, **json.loads(line % fill if "%s" in line else line)}
+                    reader.take(element, len(line))
+                tallies = rows.tallies(reader.graph)
                 self.assertEqual(tuple(tally.rows for tally in tallies.values())[:6], wanted)
                 more = {"items": 12, "marks": 4, "bearers": 2} if long else {}
                 for kind, tally in list(tallies.items())[2:6]:

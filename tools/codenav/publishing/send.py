@@ -8,11 +8,11 @@ from typing import IO, Any, BinaryIO, NamedTuple, Optional, cast
 
 from codenav.client.http import Answer, found_in, refusal_of, reply_in
 from codenav.client.projects import fresh_key, put
-from codenav.dumps.lsif.reading import Source
 from codenav.dumps.tables import rows
+from codenav.dumps.tables.reader import read_graph
 from codenav.faults import BadCall, NotADump
 from codenav.outcome import Excess
-from codenav.progress import Shows
+from codenav.progress import Quiet, Shows
 from codenav.publishing.made import Body, Made, Refused
 from codenav.publishing.target import Target
 from codenav.sets.publish.publish import Publish, Report, remove_set
@@ -63,13 +63,11 @@ def is_want_of_memory(answer: Answer) -> bool:
 def excesses(body: IO[bytes], name: str, profile: str) -> list[Excess]:
     """The limits of rows that a dump goes over, for which the server refuses it as for want of
     memory however often it's sent."""
-    counter = rows.RowCounter(profile)
     try:
-        for row in Source(cast(BinaryIO, body), name).rows():
-            counter.take(row.element)
+        graph = read_graph(cast(BinaryIO, body), name, profile, Quiet())
     except NotADump:
         return []
-    return rows.excesses(counter.tallies())
+    return rows.excesses(rows.tallies(graph))
 
 
 def put_body(

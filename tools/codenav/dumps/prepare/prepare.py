@@ -26,6 +26,8 @@ from codenav.dumps.prepare.survey import Survey
 from codenav.dumps.prepare.unreached import drop_unreached
 from codenav.dumps.prepare.vertices import VERSION, Mender
 from codenav.dumps.tables import rows
+from codenav.dumps.tables.graph import Graph
+from codenav.dumps.tables.reader import Reader
 from codenav.files import whole_file
 from codenav.kinds import KINDS
 from codenav.limits import excesses
@@ -75,13 +77,12 @@ def surveyed(source: Source, options: Options, notes: Notes) -> Survey:
     return survey
 
 
-def written(
-    source: Source, out: BinaryIO, plan: Plan, counter: Optional[rows.RowCounter]
-) -> Writer:
-    """Reads the dump again and writes it prepared. The counter takes each element."""
+def written(source: Source, out: BinaryIO, plan: Plan, reader: Optional[Reader]) -> Writer:
+    """Reads the dump again and writes it prepared. The reader, where there is one, takes each
+    element."""
     before = plan.survey.mender
     mender = Mender(Notes(), before.strip, before.keep_unique, before.root)
-    writer = Writer(out, None if counter is None else counter.take)
+    writer = Writer(out, reader)
     Rewriting(plan, mender, writer).run(source.rows)
     out.flush()
     return writer
@@ -129,10 +130,10 @@ def prepare(source: Source, out_path: str, options: Options, shows: Shows) -> Pr
     plan = Plan(surveyed(source, options, notes))
     for decide in PASSES:
         decide(plan, options)
-    counter = rows.RowCounter(options.profile) if options.reports else None
+    reader = Reader(options.profile, Graph()) if options.reports else None
     source.watch = lambda read: shows.at(source.size + read)
     with whole_file(out_path) as out:
-        writer = written(source, out, plan, counter)
+        writer = written(source, out, plan, reader)
     counts = {
         "elements before": plan.survey.elements,
         "elements": writer.elements,
@@ -141,8 +142,9 @@ def prepare(source: Source, out_path: str, options: Options, shows: Shows) -> Pr
     }
     said = [*source.shape.notes(), *notes.all()]
     over = excesses(writer.elements, writer.body_bytes, writer.longest_line)
-    if counter is not None:
-        tallies = counter.tallies()
+    if reader is not None:
+        reader.forget()
+        tallies = rows.tallies(reader.graph)
         over += rows.excesses(tallies)
         said += [rows.note(tallies), *merged(plan), *without_effect(plan.survey, options.profile)]
     outcome = Outcome(summary(plan, counts), counts, tuple(said), tuple(over))

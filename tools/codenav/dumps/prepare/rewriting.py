@@ -26,6 +26,7 @@ from codenav.dumps.prepare.labels import (
 from codenav.dumps.prepare.numbers import NONE
 from codenav.dumps.prepare.plan import AS_SET, DROPPED, KEPT, MOVED, Plan
 from codenav.dumps.prepare.vertices import Mender
+from codenav.dumps.tables.reader import Reader
 from codenav.faults import NotADump
 from codenav.limits import MOST_LINE_BYTES
 
@@ -38,10 +39,11 @@ REFUSED = "refused"
 
 
 class Writer:
-    """Writes lines, and counts them and their bytes."""
+    """Writes lines, and counts them and their bytes. A reader, where there is one, takes each
+    element."""
 
-    def __init__(self, out: BinaryIO, take: Optional[Callable[[Element], None]]) -> None:
-        self.out, self.take = out, take
+    def __init__(self, out: BinaryIO, reader: Optional[Reader]) -> None:
+        self.out, self.reader = out, reader
         self.elements = self.body_bytes = self.longest_line = 0
 
     def line(self, text: bytes, element: Element) -> None:
@@ -51,8 +53,8 @@ class Writer:
         self.body_bytes += len(text) + 1
         if len(text) > self.longest_line:
             self.longest_line = len(text)
-        if self.take is not None:
-            self.take(element)
+        if self.reader is not None:
+            self.reader.take(element, len(text) + 1)
 
 
 class Rewriting:

@@ -11,7 +11,8 @@ from codenav.dumps.scip.conversion import converted
 from codenav.dumps.scip.messages import IndexFile
 from codenav.dumps.scip.options import ScipOptions
 from codenav.dumps.tables.disk_arrays import Column, Numbers
-from codenav.dumps.tables.graph import KINDS, NONE, RANGE, Graph, Reader
+from codenav.dumps.tables.graph import KINDS, NONE, RANGE, Graph
+from codenav.dumps.tables.reader import Reader
 from codenav.outcome import Outcome
 from codenav.progress import Shows
 

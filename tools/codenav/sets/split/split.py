@@ -17,7 +17,8 @@ from dataclasses import dataclass
 from typing import IO, TYPE_CHECKING, Callable, Iterator, NamedTuple, Optional, Sequence, Union
 
 from codenav.dumps.scip.options import ScipOptions
-from codenav.dumps.tables.graph import ASKED, Graph, read_graph
+from codenav.dumps.tables.graph import ASKED, Graph
+from codenav.dumps.tables.reader import read_graph
 from codenav.faults import BadCall
 from codenav.limits import MOST_ELEMENTS
 from codenav.outcome import Outcome

@@ -11,7 +11,8 @@ from array import array
 from itertools import groupby
 from typing import BinaryIO, Iterator
 
-from codenav.dumps.tables.graph import EDGES, HOVER, NONE, REFERENCES, RESULTS, Graph, read_graph
+from codenav.dumps.tables.graph import EDGES, HOVER, NONE, REFERENCES, RESULTS, Graph
+from codenav.dumps.tables.reader import read_graph
 from codenav.faults import NotADump
 from codenav.files import whole_file
 from codenav.progress import Shows
