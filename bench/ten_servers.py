@@ -1,4 +1,3 @@
-#!/usr/bin/env python3
 """Measures sets on several servers: so many large dumps that are joined with each other
 (joined_dumps.py), each the set of a server of its own. Of the first one's server all is done: its
 set is split and put there, and the surfaces of all others too. Beside it one server has the first
@@ -26,9 +25,6 @@ import time
 from concurrent.futures import ProcessPoolExecutor
 from contextlib import ExitStack
 from typing import Any, Callable
-
-TOP = os.path.dirname(os.path.dirname(os.path.abspath(__file__)))
-sys.path.insert(0, os.path.join(TOP, "tools"))
 
 from joined_dumps import Place, make_text, write_renamed
 

@@ -24,7 +24,7 @@ PAGE = "docs/SCALE.md"
 SECONDS = 600
 SHARDS = "map $request_uri $codenav_shard {"
 # the commands that run here, in their order
-RUN = ("tools/publish --servers ", "tools/ask --tags app=. ")
+RUN = ("codenav publish --servers ", "codenav ask --tags app=. ")
 NAMES = [f"name{number}" for number in range(16)]
 Change = Callable[[str, Front, list[str]], str]
 

@@ -62,7 +62,7 @@ def steps(url: str, dump: str) -> list[Step]:
     with open(os.path.join(TOP, TAGS), "rb") as lines:
         tagged = f'{{"accepted":"tags","count":{sum(1 for _ in lines)}}}'
     ask, project = ["ask", *MAP, url, "temperature"], [url, "temperature"]
-    upload = ["upload-lsif", "--retry", *project, dump]
+    upload = ["upload", "--retry", *project, dump]
     at_definition, uses = ":".join(AT_DEFINITION), ":".join(DEFINITION[1:])
 
     def asked(words: list[str], output: str) -> Step:
@@ -75,7 +75,7 @@ def steps(url: str, dump: str) -> list[Step]:
         asked(DEFINITION, at_definition),
         asked(["references", *AT_DEFINITION], f"{uses}\n{at_definition}"),
         asked(["hover", *AT_DEFINITION], HOVER),
-        Step(["upload-tags", "--retry", *project, TAGS], tagged),
+        Step(["upload", "--retry", *project, TAGS], tagged),
         Step(["ask", "--tags", FOLDER, *project, "names", "is_warm"], TAG),
         Step(["list", url], "temperature: dump and tags"),
         Step(["remove", *project], "temperature: removed"),
@@ -125,9 +125,9 @@ def trial(program: Program, folder: str) -> int:
     should."""
     answered(program)
     dump = os.path.join(folder, "crate.lsif")
-    _, status = run(["prepare-lsif", DUMP, dump])
+    _, status = run(["prepare", DUMP, dump])
     if status != 0:
-        raise Failed(f"prepare-lsif ended with status {status}")
+        raise Failed(f"prepare ended with status {status}")
     port = free_port()
     todo = steps(f"http://127.0.0.1:{port}", dump)
     with started(program, port, sum(step.requests for step in todo)) as server:
