@@ -31,6 +31,7 @@ sys.path.insert(0, os.path.join(TOP, "tools"))
 from codenav.program import Program
 from codenav.texts.places import uri_of
 from tests.repository import git_in
+from tests.servers import command
 from tests.test_explain import META, edge, span, vertex
 from tests.test_lsp import Editor
 
@@ -57,7 +58,7 @@ def write(path: str, text: str) -> None:
 
 def tool(name: str, *words: str) -> None:
     """Calls a tool, which has to succeed."""
-    command = [os.path.join(TOP, "tools", name), *words]
+    command = [*command(name), *words]
     subprocess.run(command, check=True, capture_output=True)
 
 

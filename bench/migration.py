@@ -61,7 +61,7 @@ def put(path: str, file: pathlib.Path) -> bytes:
 def prepared(dump: str, folder: pathlib.Path) -> pathlib.Path:
     """The dump as the server accepts it."""
     out = folder / "prepared.lsif"
-    run([str(TOP / "tools/prepare-lsif"), str(TOP / dump), str(out)])
+    run([str(TOP / "codenav"), "prepare-lsif", str(TOP / dump), str(out)])
     return out
 
 

@@ -19,13 +19,14 @@ import time
 from collections import Counter
 from contextlib import ExitStack, redirect_stderr, redirect_stdout
 from io import StringIO
-from typing import Callable
+from typing import Any, Callable
 from urllib.parse import parse_qsl
 
 from proxy import Asked, as_set, by_port, publish_all, put_all, queries
 
 from codenav.asking.index import Index
-from codenav.cli.publish import PUBLISH
+from codenav.cli.command import Command
+from codenav.cli.rebalance import REBALANCE
 from codenav.client.fetch import fetch_from
 from codenav.faults import Failed, NoReply
 from codenav.program import Program, Running, free_port
@@ -92,12 +93,12 @@ class Load:
             self.counts[question.ask(index)] += 1
 
 
-def called(*words: str) -> list[str]:
-    """Calls `publish`, which ends with 0; answers what it prints."""
+def called(command: Command[Any], *words: str) -> list[str]:
+    """Calls a word, which ends with 0; answers what it prints."""
     with redirect_stdout(StringIO()) as said, redirect_stderr(StringIO()) as warned:
-        status = PUBLISH.main(list(words))
+        status = command.main(list(words))
     if status != 0:
-        raise Failed(f"publish {' '.join(words)}: {warned.getvalue()}")
+        raise Failed(f"{command.word} {' '.join(words)}: {warned.getvalue()}")
     return said.getvalue().splitlines()
 
 
@@ -133,7 +134,7 @@ class Trial:
     def rebalance(self, servers: list[str], *words: str) -> list[str]:
         """Puts the sets where servers have them."""
         named = ",".join(servers)
-        return called("--rebalance", self.kept, "--servers", named, *words, self.front.url)
+        return called(REBALANCE, "--servers", named, *words, self.front.url, self.kept)
 
 
 def row(what: str, counts: Counter[str], seconds: float, said: str) -> None:

@@ -36,6 +36,7 @@ from codenav.client.http import found_in, request
 from codenav.program import Program, Running, free_port
 from codenav.sets.files import MANIFEST, read_documents, read_head
 from codenav.sets.manifest import Head
+from tests.servers import command
 
 TICKS = os.sysconf("SC_CLK_TCK")
 KINDS = {"definition": "places", "references": "places", "hover": "contents"}
@@ -109,7 +110,7 @@ def called(used: dict[str, float], *words: str) -> None:
     """Calls a tool."""
     used["memory"], before = 0, children_seconds()
     with tempfile.TemporaryFile() as said:
-        with subprocess.Popen([sys.executable, *words], stdout=said, stderr=said) as tool:
+        with subprocess.Popen(words, stdout=said, stderr=said) as tool:
             while tool.poll() is None:
                 used["memory"] = max(used["memory"], shared_memory(tool.pid))
                 try:
@@ -257,13 +258,13 @@ def split(name: str, path: str, own: str, pid: int) -> None:
     """Splits a dump."""
     with stage(f"{name}, split", pid) as used:
         words = ["--jobs", PROCESSES, "--name", name.split()[0], path, own]
-        called(used, f"{TOP}/tools/split-lsif", *words)
+        called(used, *command("split-lsif"), *words)
 
 
 def published(name: str, url: str, own: str, pid: int) -> None:
     """Publishes what is in a folder."""
     with stage(f"{name}, published", pid) as used:
-        called(used, f"{TOP}/tools/publish-set", url, own)
+        called(used, *command("publish-set"), url, own)
 
 
 def changed(large: str, own: str, uri: str, pid: int) -> str:

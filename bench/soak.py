@@ -28,6 +28,7 @@ from load import AT, Client, Place, Seen, hover_dump
 from codenav.program import Program, free_port
 from codenav.service.folder import serving_of
 from tests.fronts import Front, fronted, lacking
+from tests.servers import command
 
 TOP = Path(__file__).resolve().parent.parent
 PROJECTS, CLIENTS = 40, 20
@@ -48,8 +49,9 @@ class Service:
         self.process = self.started()
 
     def called(self, tool: str, *words: str) -> "subprocess.Popen[bytes]":
-        command = [sys.executable, "-B", str(TOP / "tools" / tool), *words]
-        return subprocess.Popen(command, stdin=subprocess.DEVNULL, stdout=self.log, stderr=self.log)
+        return subprocess.Popen(
+            [*command(tool), *words], stdin=subprocess.DEVNULL, stdout=self.log, stderr=self.log
+        )
 
     def started(self) -> "subprocess.Popen[bytes]":
         return self.called("supervise", *self.words)

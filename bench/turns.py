@@ -25,15 +25,12 @@ from codenav.client.http import request
 from codenav.program import free_port
 from codenav.service.folder import database_at
 from tests.fronts import fronted, lacking
+from tests.servers import command
 
 FUNCTIONS = 3001
 MOST = 0.5
 BEFORE = 5
 READS = "definition", "long hover", "hover", "gone"
-
-
-def tool(name: str) -> list[str]:
-    return [sys.executable, "-B", os.path.join(os.path.dirname(__file__), "..", "tools", name)]
 
 
 def filled(program: str, folder: str, projects: int) -> int:
@@ -60,7 +57,7 @@ def reads(seen: Seen) -> float:
 def turn(folder: str, count: int) -> None:
     """Takes turns, one after the other."""
     for _ in range(count):
-        subprocess.run([*tool("turn"), folder], check=True, stdin=subprocess.DEVNULL)
+        subprocess.run([*command("turn"), folder], check=True, stdin=subprocess.DEVNULL)
         time.sleep(1)
 
 
@@ -76,7 +73,7 @@ def trial(given: argparse.Namespace, stack: ExitStack) -> bool:
     front = stack.enter_context(fronted("lua", f"{base}/front", servers))
     words = ["--program", program, "--port", str(ports[0]), "--second-port", str(ports[1])]
     words += ["--front", f"http://127.0.0.1:{front.local}", folder]
-    service = subprocess.Popen([*tool("supervise"), *words], stdin=subprocess.DEVNULL)
+    service = subprocess.Popen([*command("supervise"), *words], stdin=subprocess.DEVNULL)
     stack.callback(service.wait)
     stack.callback(service.terminate)
     while request(f"http://127.0.0.1:{ports[0]}/projects", seconds=5).status != 200:

@@ -31,9 +31,9 @@ def demo_server(program: str) -> Iterator[str]:
         url = server.url
         for project, raw in PROJECTS.items():
             dump = os.path.join(folder, "prepared.lsif")
-            succeed(["tools/prepare-lsif", raw, dump])
-            succeed(["tools/upload-lsif", url, project, dump])
-        succeed(["tools/upload-tags", url, "temperature", TAGS])
+            succeed(["prepare-lsif", raw, dump])
+            succeed(["upload-lsif", url, project, dump])
+        succeed(["upload-tags", url, "temperature", TAGS])
         yield url
 
 

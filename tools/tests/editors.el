@@ -5,7 +5,7 @@
 
 (define-derived-mode codenav-mode prog-mode "codenav")
 (add-to-list 'auto-mode-alist '("\\.rs\\'" . codenav-mode))
-(add-to-list 'eglot-server-programs (list 'codenav-mode (getenv "CODENAV_LSP")))
+(add-to-list 'eglot-server-programs (cons 'codenav-mode (split-string (getenv "CODENAV_LSP"))))
 (setq eglot-sync-connect 120 eglot-connect-timeout 120 make-backup-files nil create-lockfiles nil)
 
 (defun show-found (what items)
@@ -20,7 +20,7 @@
 (defun open-file (name)
   (find-file (expand-file-name name (getenv "CODENAV_HOME")))
   (unless (eglot-current-server)
-    (eglot '(codenav-mode) (cons 'transient (getenv "CODENAV_HOME")) 'eglot-lsp-server (list (getenv "CODENAV_LSP")) "rust"))
+    (eglot '(codenav-mode) (cons 'transient (getenv "CODENAV_HOME")) 'eglot-lsp-server (split-string (getenv "CODENAV_LSP")) "rust"))
   (unless (bound-and-true-p eglot--managed-mode) (eglot--maybe-activate-editing-mode)))
 
 (defun go-to (text)

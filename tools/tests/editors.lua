@@ -15,7 +15,7 @@ end
 
 vim.cmd("edit " .. vim.env.CODENAV_HOME .. "/user/src/lib.rs")
 local buffer = vim.api.nvim_get_current_buf()
-local client = vim.lsp.start_client({ name = "codenav", cmd = { vim.env.CODENAV_LSP }, root_dir = vim.env.CODENAV_HOME })
+local client = vim.lsp.start_client({ name = "codenav", cmd = vim.split(vim.env.CODENAV_LSP, " "), root_dir = vim.env.CODENAV_HOME })
 vim.lsp.buf_attach_client(buffer, client)
 wait_for("initialize", function() return vim.lsp.buf_get_clients(buffer)[client] ~= nil end)
 

@@ -67,7 +67,7 @@ def large_crate(program: str) -> Iterator[LargeCrate]:
     with copied(CRATE) as home, Program(program).serve() as server:
         url = server.url
         home = os.path.realpath(home)
-        succeed(["tools/publish", "--set", "--index", f"{ANALYZER} lsif .", url, NAME, home])
+        succeed(["publish", "--set", "--index", f"{ANALYZER} lsif .", url, NAME, home])
         head, places = Store(url).head(NAME), places_of(home)
         if head is None or len(head.parts) < LEAST_PARTS:
             raise Failed(f"{CRATE} isn't a set of {LEAST_PARTS} parts: {head}")

@@ -4,6 +4,7 @@ answers on their way."""
 import os
 import socket
 import subprocess
+import sys
 import threading
 import unittest
 from typing import Any, Callable, Optional
@@ -18,8 +19,6 @@ TOP = os.path.dirname(os.path.dirname(os.path.dirname(os.path.abspath(__file__))
 SECONDS = 10
 NOT_BUILT = "the program isn't built, and CODENAV_PROGRAM names none"
 BUILT = os.path.join(TOP, BUILT_IN)
-# what is called in a process of its own: `python3 COMMAND WORD ..`
-COMMAND = os.path.join(TOP, "tools", "codenav", "__main__.py")
 STAND_IN = os.path.join(TOP, "tools", "tests", "stand_in.py")
 
 
@@ -30,6 +29,11 @@ def built_program() -> Optional[str]:
     if named:
         return os.path.abspath(named)
     return BUILT if os.path.isfile(BUILT) else None
+
+
+def command(word: str) -> list[str]:
+    """What calls a word in a process of its own."""
+    return [sys.executable, "-B", os.path.join(TOP, "tools", "codenav", "__main__.py"), word]
 
 
 def ended(process: "subprocess.Popen[Any]") -> None:

@@ -12,7 +12,7 @@ from codenav.dumps.tables import graph
 from codenav.progress import Quiet
 from codenav.sets.files import MANIFEST, read_head
 from codenav.sets.manifest import PART, PARTS
-from codenav.sets.publish import publish
+from codenav.sets.publish import claim
 from codenav.sets.publish.publish import Publish, remove_set
 from codenav.sets.publish.spread import Spread
 from codenav.sets.split.crossing import Shared
@@ -193,7 +193,7 @@ class Scene:
         if OTHER in self.others:
             self.put(servers, OTHER, self.others[OTHER])
         begin = len(servers.moments) - 1
-        with mock.patch.object(publish, "is_alive", lambda record: False):
+        with mock.patch.object(claim, "is_alive", lambda record: False):
             for what, revision, left in acts:
                 servers.left = left
                 try:

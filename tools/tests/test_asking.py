@@ -13,7 +13,7 @@ from codenav.cli.prepare import PREPARE
 from codenav.cli.upload import UPLOAD
 from codenav.client.fetch import fetch_from
 from codenav.texts import places
-from tests.servers import TOP, OnServer
+from tests.servers import TOP, OnServer, command
 
 CRATE = os.path.join(TOP, "demo", "crate")
 RAW = os.path.join(TOP, "demo", "crate.raw.lsif")
@@ -156,8 +156,16 @@ class Asking(OnServer):
         self.assertEqual(self.asked("--json", *words, "names", "none")[:2], (1, '{"tags":[]}\n'))
 
     def test_a_pipe_that_is_closed(self) -> None:
-        tool = os.path.join(TOP, "tools", "ask")
-        words = [tool, "--tags", f"app={CRATE}", self.url, "app", "names", "--prefix", "r"]
+        words = [
+            *command("ask"),
+            "--tags",
+            f"app={CRATE}",
+            self.url,
+            "app",
+            "names",
+            "--prefix",
+            "r",
+        ]
         with subprocess.Popen(words, stdout=subprocess.PIPE, stderr=subprocess.PIPE) as run:
             assert run.stdout is not None and run.stderr is not None
             run.stdout.close()

@@ -131,7 +131,7 @@ class OverTags(OnServer):
                 file.write(text)
 
     def test_a_project_with_a_dump_is_asked_by_name_alone_where_that_is_wished(self) -> None:
-        self.put("lsif", "app", DUMP)
+        self.put("app", DUMP)
         main = os.path.join(self.folder, "src/main.c")
         status, found, said = self.asked("app", "definition", main, "2", "27")
         self.assertEqual((status, found), (2, []))
@@ -143,7 +143,7 @@ class OverTags(OnServer):
         )
 
     def test_projects_that_are_not_known(self) -> None:
-        self.put("lsif", "dump", DUMP)
+        self.put("dump", DUMP)
         main = os.path.join(self.folder, "src/main.c")
         for project in "app", "dump":
             self.assertEqual(self.asked(project, "names", "none"), (1, [], ""))
@@ -196,7 +196,7 @@ class OverTags(OnServer):
         for what in "definition", "references":
             with self.assertRaisesRegex(NoReply, "^late: D01 project has no dump"):
                 workspace.ask(what, Place(path, 1, 26))
-        self.put("tags", "late", os.path.join(self.folder, "tags"))
+        self.put("late", os.path.join(self.folder, "tags"))
         [found] = workspace.ask("definition", Place(path, 1, 26)).found
         self.assertEqual(found["path"], os.path.join(self.folder, "lib/area.c"))
         note = workspace.ask("references", Place(path, 1, 26)).note
@@ -205,7 +205,7 @@ class OverTags(OnServer):
     def test_where_it_is_wished(self) -> None:
         """An editor and the page are answered by name of a project that has a dump, whoever says
         which project it is."""
-        self.put("lsif", "app", DUMP)
+        self.put("app", DUMP)
         with open(os.path.join(self.folder, FILE), "w", encoding="utf-8") as file:
             file.write(f'server = "{self.url}"\nproject = "app"\n')
         for words in ["--by-name", self.url, "app"], ["--by-name"]:

@@ -15,7 +15,7 @@ import tomllib
 from codenav.cli.ask import ASK
 from codenav.cli.browse import BROWSE, browser_of
 from codenav.cli.publish import PUBLISH
-from codenav.client import http as client
+from codenav.client import login
 from codenav.settings.found import FILE
 from tests.repository import InRepository
 from tests.servers import TOP, OnServer
@@ -166,8 +166,8 @@ class Logins(InRepository):
         for words, named, is_sent in cases:
             variables = {"CODENAV_TOKEN": "secret", "CODENAV_URL": named, "NETRC": os.devnull}
             with mock.patch.dict(os.environ, variables), mock.patch.object(
-                client, "BY_CALL", set()
-            ), mock.patch.object(client, "BY_FILES", set()):
+                login, "BY_CALL", set()
+            ), mock.patch.object(login, "BY_FILES", set()):
                 seen.clear()
                 status, _, said = quietly(ASK.main, *words, "hover", path, "1", "1")
             self.assertEqual((status, seen), (2, ["Bearer secret" if is_sent else None]), words)

@@ -12,6 +12,7 @@ from unittest import mock
 
 from codenav.cli.explain import EXPLAIN
 from codenav.dumps.check import lines, sentences
+from tests.servers import command
 
 TOP = os.path.dirname(os.path.dirname(os.path.dirname(os.path.abspath(__file__))))
 CODES = {f"L{number:02}" for number in range(1, 21)} | {"E01", "E02"}
@@ -414,11 +415,9 @@ class Explain(unittest.TestCase):
                 )
 
     def test_the_standard_input_and_no_file(self) -> None:
-        tool, dump = os.path.join(TOP, "tools", "explain-fault"), os.path.join(
-            "demo", "exchanged.lsif"
-        )
+        tool, dump = command("explain"), os.path.join("demo", "exchanged.lsif")
         done = subprocess.run(
-            [tool, dump],
+            [*tool, dump],
             input=b"line 8: L09 vertex not emitted before\n",
             capture_output=True,
             cwd=TOP,
@@ -428,7 +427,7 @@ class Explain(unittest.TestCase):
             (done.returncode, done.stdout[:39]), (0, b"demo/exchanged.lsif:8: L09 vertex not e")
         )
         done = subprocess.run(
-            [tool, "no/file"],
+            [*tool, "no/file"],
             input=b"line 8: L09 \xff\n",
             capture_output=True,
             cwd=TOP,

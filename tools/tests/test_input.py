@@ -20,6 +20,7 @@ from codenav.dumps.lsif import reading as lsif
 from codenav.dumps.prepare import putting, vertices
 from tests.accepted import fault
 from tests.packages import needs
+from tests.servers import command
 
 TOP = os.path.dirname(os.path.dirname(os.path.dirname(os.path.abspath(__file__))))
 BASE = os.path.join(TOP, "demo", "base.lsif")
@@ -293,8 +294,8 @@ class Input(unittest.TestCase):
             with open(old, "rb") as file:
                 self.assertEqual(file.read(), b"before")
         with open("/dev/full", "wb") as full:
-            tool = os.path.join(TOP, "tools", "prepare-lsif")
-            done = subprocess.run([tool, BASE, "-"], stdout=full, stderr=subprocess.PIPE, text=True)
+            words = [*command("prepare"), BASE, "-"]
+            done = subprocess.run(words, stdout=full, stderr=subprocess.PIPE, text=True)
         self.assertEqual(
             (done.returncode, done.stderr),
             (2, "codenav prepare: standard output: No space left on device\n"),

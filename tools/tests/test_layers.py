@@ -27,65 +27,13 @@ LAYERS = {
     "service": "ground client",
     "cli": "",
 }
-IMPORTS = """
-client.upload -> cli.ends
-client.upload -> cli.options
-client.upload -> dumps.lsif.reading
-client.upload -> dumps.tables.rows
-client.upload -> texts.checked_out
-dumps.check.why -> sets.manifest
-publishing.publish -> cli.ends
-publishing.publish -> cli.main
-publishing.publish -> cli.options
-sets.publish.publish -> cli.ends
-sets.split.split -> cli.ends
-sets.split.split -> index.indexers
-sets.split.tags -> index.tags_file
-sets.surface.surface -> cli.ends
-"""
+IMPORTS = ""
 LONG = """
-client.http
-dumps.check.explain
-dumps.check.why
-dumps.lsif.reading
 dumps.prepare.rewriting
 dumps.prepare.survey
 dumps.tables.graph
-publishing.publish
-sets.manifest
-sets.publish.publish
-sets.split.flat
-sets.split.part
-sets.split.split
 """
-USES = """
-client.upload: argparse
-client.upload: print
-dumps.check.explain: argparse
-dumps.check.explain: print
-dumps.check.why: argparse
-dumps.check.why: print
-dumps.prepare.prepare: argparse
-dumps.prepare.prepare: print
-dumps.scip.conversion: argparse
-dumps.scip.conversion: print
-dumps.scip.to_lsif: argparse
-dumps.scip.to_lsif: print
-dumps.tables.graph: print
-dumps.tables.of_scip: argparse
-progress: print
-publishing.publish: argparse
-publishing.publish: print
-publishing.publish: sys.argv
-sets.publish.publish: argparse
-sets.publish.publish: print
-sets.publish.rebalance: argparse
-sets.publish.rebalance: print
-sets.split.split: argparse
-sets.split.split: print
-sets.surface.surface: argparse
-sets.surface.surface: print
-"""
+USES = ""
 
 
 def modules() -> dict[str, Path]:

@@ -21,9 +21,10 @@ from codenav.lsp.open_documents import OpenDocuments, document_name
 from codenav.records import ADDRESS
 from codenav.texts.places import uri_of
 from tests.editor_addresses import NAME, SAME, SPELLINGS
+from tests.servers import command
 
 TOP = os.path.dirname(os.path.dirname(os.path.dirname(os.path.abspath(__file__))))
-LSP = os.path.join(TOP, "tools", "lsp")
+LSP = command("lsp")
 TEXT = "fn main() {}\n"
 PLACE: dict[str, Any] = {"start": {"line": 1, "character": 2}, "end": {"line": 1, "character": 5}}
 NOT_MAPPED = [
@@ -80,7 +81,7 @@ class Editor:
 
     def __init__(self, *words: str) -> None:
         self.run = subprocess.Popen(
-            [LSP, *words], stdin=subprocess.PIPE, stdout=subprocess.PIPE, stderr=subprocess.PIPE
+            [*LSP, *words], stdin=subprocess.PIPE, stdout=subprocess.PIPE, stderr=subprocess.PIPE
         )
         self.last = 0
 
@@ -693,7 +694,7 @@ class Lsp(unittest.TestCase):
             (["--log", "/no/log", self.url, "app"], "/no/log: No such file or directory"),
         ):
             done = subprocess.run(
-                [LSP, *words], stdin=subprocess.DEVNULL, capture_output=True, check=False
+                [*LSP, *words], stdin=subprocess.DEVNULL, capture_output=True, check=False
             )
             self.assertEqual(
                 (done.returncode, done.stdout, done.stderr.decode()),

@@ -1,19 +1,25 @@
-"""Tests of the one command `codenav-tools`, and that it has each tool of the clone."""
+"""Tests of the one command `codenav`: its words, its ends, and that pip installs it."""
 
 import glob
 import importlib.util
 import io
 import os
 import shutil
+import signal
+import socket
 import subprocess
-import sys
 import tempfile
 import unittest
 import venv
 from contextlib import redirect_stderr, redirect_stdout
 
-from codenav.cli.main import TOOLS, main
-from tests.servers import TOP, OnServer
+import tomllib
+
+from codenav import VERSION
+from codenav.cli.main import TOOLS, main, usage
+from codenav.program import NONE, PACKAGED, WORDS
+from tests.packages import needs
+from tests.servers import BUILT, SECONDS, TOP, OnServer, built_program, command
 
 
 def files_of(folder: str) -> set[str]:
@@ -28,16 +34,47 @@ def files_of(folder: str) -> set[str]:
 
 class OneCommand(unittest.TestCase):
     def test_each_tool(self) -> None:
-        folder = os.path.join(TOP, "tools")
-        files = [name for name in os.listdir(folder) if os.path.isfile(os.path.join(folder, name))]
-        self.assertEqual(sorted(TOOLS), sorted(files))
-        for name in TOOLS:
+        for name, tool in TOOLS.items():
             with self.subTest(name), redirect_stdout(io.StringIO()) as said:
                 with self.assertRaises(SystemExit) as end:
                     main([name, "--help"])
+            words = ["usage:", "codenav", name] if tool.command else ["usage:", name]
             self.assertEqual(
-                (end.exception.code, said.getvalue().split()[:2]), (0, ["usage:", name])
+                (end.exception.code, said.getvalue().split()[: len(words)]), (0, words)
             )
+
+    def test_help_is_one_screen(self) -> None:
+        lines = usage().splitlines()
+        self.assertLessEqual((len(lines), max(map(len, lines))), (24, 80))
+        for word in WORDS:
+            self.assertIn(f"\n  {word} ", usage())
+
+    def test_version(self) -> None:
+        """Of the tools, and of the program, which is known to be proved by its place alone."""
+        with open(os.path.join(TOP, "pyproject.toml"), "rb") as file:
+            self.assertEqual(tomllib.load(file)["tool"]["poetry"]["version"], VERSION)
+        with tempfile.TemporaryDirectory() as folder:
+            for place, said in (PACKAGED, "proved"), ("bin/codenav", "not known to be proved"):
+                path = os.path.join(os.path.realpath(folder), place)
+                os.makedirs(os.path.dirname(path))
+                with open(path, "w", encoding="utf-8") as out:
+                    out.write("#!/bin/sh\necho codenav 7.8\n")
+                os.chmod(path, 0o755)
+                status, printed, _ = self.called("--version", CODENAV_PROGRAM=path)
+                wanted = f"codenav {VERSION}\nthe program 7.8, {said}: {path}\n"
+                self.assertEqual((status, printed), (0, wanted))
+
+    def called(self, *words: str, **more: str) -> tuple[int, str, str]:
+        """The status of a call in a process of its own, and what it printed."""
+        done = subprocess.run(
+            [*command(words[0]), *words[1:]],
+            env={**os.environ, **more},
+            stdin=subprocess.DEVNULL,
+            capture_output=True,
+            text=True,
+            check=False,
+        )
+        return done.returncode, done.stdout, done.stderr
 
     def test_calls(self) -> None:
         cases: list[tuple[list[str], int]] = [(["--help"], 0), (["-h"], 0), ([], 2), (["none"], 2)]
@@ -47,40 +84,70 @@ class OneCommand(unittest.TestCase):
             self.assertEqual(
                 (said.getvalue() != "", warned.getvalue().count("\n")), (status == 0, status // 2)
             )
-        done = subprocess.run(
-            [sys.executable, "-m", "codenav", "explain-fault", "/no/file"],
-            cwd=os.path.join(TOP, "tools"),
-            stdin=subprocess.DEVNULL,
-            capture_output=True,
-            check=False,
+        status, _, warned = self.called("restore", "/no/folder", "/no/other")
+        self.assertEqual(
+            (status, warned), (2, "codenav restore: /no/folder: no copy of a database\n")
         )
-        self.assertEqual((done.returncode, done.stderr.count(b"\n")), (2, 1))
+
+    def test_the_program(self) -> None:
+        """Its words are its own, wherever it is; where it's nowhere that's one line."""
+        with tempfile.TemporaryDirectory() as folder:
+            path = os.path.join(folder, "one")
+            with open(path, "w", encoding="utf-8") as out:
+                out.write('#!/bin/sh\necho "$@"\nexit 7\n')
+            os.chmod(path, 0o755)
+            for word in WORDS:
+                status, said, _ = self.called(word, "--x", "y z", CODENAV_PROGRAM=path)
+                self.assertEqual((status, said), (7, f"{word} --x y z\n"))
+            # a script of the name may be these tools again
+            os.rename(path, f"{folder}/codenav")
+            if built_program() != BUILT:
+                status, _, warned = self.called("serve", CODENAV_PROGRAM="", PATH=folder)
+                self.assertEqual((status, warned), (2, f"codenav serve: {NONE}\n"))
+        status, _, warned = self.called("serve", CODENAV_PROGRAM="/no/program")
+        self.assertEqual((status, warned), (2, "codenav serve: /no/program: no program\n"))
+
+    def test_ends(self) -> None:
+        """A signal is one line and its status; where nobody reads there's no line."""
+        with socket.create_server(("127.0.0.1", 0)) as silent:
+            url = f"http://127.0.0.1:{silent.getsockname()[1]}"
+            for number, text in (signal.SIGINT, "Ctrl-C"), (signal.SIGTERM, "SIGTERM"):
+                words = [*command("list"), url]
+                with subprocess.Popen(words, stderr=subprocess.PIPE, text=True) as call:
+                    with silent.accept()[0] as peer:
+                        peer.recv(1)
+                        call.send_signal(number)
+                        _, warned = call.communicate(timeout=SECONDS)
+                wanted = 128 + number, f"codenav list: ended by {text}\n"
+                self.assertEqual((call.returncode, warned), wanted)
+        for words in ["--help"], ["turn", "--help"]:
+            pipes = {"stdout": subprocess.PIPE, "stderr": subprocess.PIPE}
+            with subprocess.Popen([*command(words[0]), *words[1:]], **pipes) as call:  # type: ignore[call-overload]
+                call.stdout.close()
+                self.assertEqual((call.stderr.read(), call.wait(SECONDS)), (b"", 141))
 
 
 class Installed(OnServer):
-    """The package in a fresh environment, which has nothing but pip; nothing is fetched."""
+    """The package in a fresh environment that sees Debian's packages; nothing is fetched."""
 
     def setUp(self) -> None:
         if importlib.util.find_spec("ensurepip") is None:
             self.skipTest("ensurepip isn't installed (Debian's python3-venv)")
+        needs("poetry.core", "python3-poetry-core")
         super().setUp()
         self.folder = os.path.realpath(self.enterContext(tempfile.TemporaryDirectory()))
         self.home = os.path.join(self.folder, "home")
         source = os.path.join(self.folder, "source")
-        for name in ("codenav", "wheel"):
-            shutil.copytree(
-                os.path.join(TOP, "tools", name),
-                os.path.join(source, "tools", name),
-                ignore=shutil.ignore_patterns("__pycache__"),
-            )
+        shutil.copytree(
+            os.path.join(TOP, "tools", "codenav"),
+            os.path.join(source, "tools", "codenav"),
+            ignore=shutil.ignore_patterns("__pycache__"),
+        )
         shutil.copy(os.path.join(TOP, "pyproject.toml"), source)
-        venv.create(self.home, with_pip=True, symlinks=True)
-        for words, status in (
-            (["pip", "install", "--quiet", "--no-index", source], 0),
-            (["python3", "-c", "import wheel"], 1),
-        ):
-            done = self.run_there(*words)
-            self.assertEqual(done.returncode, status, done.stderr)
+        venv.create(self.home, with_pip=True, symlinks=True, system_site_packages=True)
+        words = ["--quiet", "--no-index", "--no-build-isolation", source]
+        done = self.run_there("pip", "install", *words)
+        self.assertEqual(done.returncode, 0, done.stderr)
 
     def run_there(self, program: str, *words: str) -> subprocess.CompletedProcess[str]:
         """Runs a program of the environment, without what variables say to pip and of modules
@@ -108,11 +175,15 @@ class Installed(OnServer):
         crate, raw = (os.path.join(TOP, "demo", name) for name in ("crate", "crate.raw.lsif"))
         place = [os.path.join(crate, "src", "lib.rs"), "18", "12"]
         for words, status, said in (
-            (["--help"], 0, "usage: codenav-tools TOOL"),
-            (["browse", "--help"], 0, "usage: browse"),
-            (["list", "http://127.0.0.1:1"], 2, "list: http://127.0.0.1:1: Connection refused"),
-            (["prepare-lsif", raw, "dump"], 0, "codenav prepare: version 0.5.0 -> 0.6.0"),
-            (["upload-lsif", self.url, "app", "dump"], 0, '{"accepted":"lsif"'),
+            (["--help"], 0, "usage: codenav WORD"),
+            (["turn", "--help"], 0, "usage: codenav turn"),
+            (
+                ["list", "http://127.0.0.1:1"],
+                2,
+                "codenav list: http://127.0.0.1:1: Connection refused",
+            ),
+            (["prepare", raw, "dump"], 0, "codenav prepare: version 0.5.0 -> 0.6.0"),
+            (["upload", self.url, "app", "dump"], 0, '{"accepted":"lsif"'),
             (["list", self.url], 0, "app: dump\n"),
             (
                 ["ask", "--map", f"file:///src/tr/crate={crate}", self.url, "app", "hover", *place],
@@ -120,15 +191,10 @@ class Installed(OnServer):
                 "\n```rust\ntemperature::scale\n```",
             ),
             (["remove", self.url, "app"], 0, "app: removed\n"),
-            (
-                ["scip-to-lsif", raw, "out"],
-                2,
-                "codenav prepare: it needs Debian's package python3-protobuf",
-            ),
-            (["try-it"], 1, "try-it: runs in a clone of the repository"),
+            (["try-it"], 1, "codenav try-it: runs in a clone of the repository"),
         ):
             with self.subTest(words):
-                done = self.run_there("codenav-tools", *words)
+                done = self.run_there("codenav", *words)
                 self.assertEqual(
                     (done.returncode, (done.stdout + done.stderr)[: len(said)]), (status, said)
                 )

@@ -5,7 +5,6 @@ import os
 import signal
 import sqlite3
 import subprocess
-import sys
 import tempfile
 import threading
 import time
@@ -17,7 +16,7 @@ from codenav.program import free_port
 from codenav.service.folder import Serving, database_at, serving_of, side_of
 from codenav.service.standing import state_of
 from tests.fronts import Front, fronted, lacking
-from tests.servers import COMMAND, program
+from tests.servers import command, program
 from tests.test_fronts import HOVER
 from tests.test_uploads import DUMP
 
@@ -51,7 +50,7 @@ class OnService(unittest.TestCase):
     def launched(self, tool: str, *words: str, is_slow: bool = False) -> "subprocess.Popen[str]":
         """A tool that's called as users do."""
         process = subprocess.Popen(
-            [sys.executable, "-B", COMMAND, tool, *words],
+            [*command(tool), *words],
             env={**os.environ, **({"PYTHONPATH": f"{self.base}/slow"} if is_slow else {})},
             stdin=subprocess.DEVNULL,
             stdout=subprocess.PIPE,

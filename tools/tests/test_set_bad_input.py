@@ -3,11 +3,12 @@ with status 2, and the set answers as before."""
 
 import os
 import subprocess
-import sys
 import unittest
 
+from codenav.faults import Fault
 from codenav.sets.publish.store import Store
-from tests.servers import TOP
+from tests.servers import TOP, command
+from tests.split_files import split_file
 from tests.test_set_service import CRATE, LIB, MAP, NAME, OnFile, Revisions
 
 RAW = os.path.join(TOP, "demo", "crate.raw.lsif")
@@ -28,7 +29,7 @@ class BadInput(OnFile):
     def launched(self, tool: str, *words: str) -> "subprocess.Popen[str]":
         """A call of a tool."""
         return subprocess.Popen(
-            [sys.executable, "-B", os.path.join(TOP, "tools", tool), *words],
+            [*command(tool), *words],
             stdin=subprocess.DEVNULL,
             stdout=subprocess.PIPE,
             stderr=subprocess.PIPE,
@@ -45,27 +46,15 @@ class BadInput(OnFile):
         """A call is refused by one line with a text."""
         status, said, warned = self.called(tool, *words)
         self.assertEqual((status, said, warned.count("\n")), (2, "", 1), warned)
-        self.assertRegex(warned, f"^{tool}: .*{text}")
+        self.assertRegex(warned, f"^codenav {tool}: .*{text}")
 
     def test_calls(self) -> None:
         """Calls that can't be carried out change nothing."""
         before, files = self.projects(), sorted(os.listdir(self.both.folders[0]))
         folder, nowhere = self.both.folders[0], os.path.join(self.folder, "nowhere")
         rows = {
-            "line 1: of version 0.5.0 and not 0.6.0; prepare-lsif prepares a dump": [
-                "split-lsif",
-                *["--name", NAME, RAW, folder],
-            ],
-            "a set is 1 to 47 characters of a-z 0-9 _ -, or NAME@BRANCH, not 'x+'": [
-                "split-lsif",
-                *["--name", TOO_LONG, os.path.join(self.folder, "whole.lsif"), nowhere],
-            ],
             "47 characters": ["publish", "--set", "--dump", RAW, self.url, TOO_LONG, CRATE],
-            "manifest.tags.* No such file": ["publish-set", self.url, nowhere],
-            "a part has 1 to 100000 elements, not 100001": [
-                "split-lsif",
-                *["--elements", "100001", os.path.join(self.folder, "whole.lsif"), nowhere],
-            ],
+            "manifest.tags.* No such file": ["upload", self.url, nowhere],
         }
         for text, words in rows.items():
             with self.subTest(text):
@@ -73,6 +62,15 @@ class BadInput(OnFile):
                 self.assertEqual(self.projects(), before)
                 self.assertEqual(sorted(os.listdir(folder)), files)
                 self.assertFalse(os.path.exists(nowhere))
+        whole = os.path.join(self.folder, "whole.lsif")
+        for text, path, name, most in (
+            ("line 1: of version 0.5.0 and not 0.6.0; .* prepares a dump", RAW, NAME, 200),
+            ("a set is 1 to 47 characters of a-z 0-9 _ -, .* not 'x+'", whole, TOO_LONG, 200),
+            ("a part has 1 to 100000 elements, not 100001", whole, NAME, 100_001),
+        ):
+            with self.assertRaisesRegex(Fault, text):
+                split_file(path, folder, name, elements=most)
+            self.assertEqual(sorted(os.listdir(folder)), files)
         self.assertEqual(self.both.answering(self.url), 0)
         self.assertEqual(self.publish(folder), "parts 2, kept 2, new 0, removed 0")
 
@@ -80,7 +78,7 @@ class BadInput(OnFile):
         """A publish and a question are refused, and what stands there stays."""
         Store(self.url).put(f"{NAME}-parts", "tags", FOREIGN, "foreign")
         text = "isn't the manifest of a set: somebody else wrote it"
-        self.refused(text, "publish-set", self.url, self.both.folders[1])
+        self.refused(text, "upload", self.url, self.both.folders[1])
         self.refused(text, "ask", *MAP, self.url, NAME, *PLACE)
         tags = Store(self.url).tags(f"{NAME}-parts", "\x02")
         self.assertEqual([tag["file"] for tag in tags], ["other"])
@@ -92,7 +90,7 @@ class BadInput(OnFile):
         """Of two calls at once one publishes, and the other does so behind it or is refused; the
         set is one revision whole."""
         for _ in range(3):
-            calls = [self.launched("publish-set", self.url, own) for own in self.both.folders]
+            calls = [self.launched("upload", self.url, own) for own in self.both.folders]
             done = []
             for call in calls:
                 with call:
@@ -117,7 +115,7 @@ class BadInput(OnFile):
             f"a part of the set {NAME} is gone; publish the set again",
             *["ask", *MAP, self.url, NAME, *PLACE],
         )
-        words = ["publish-set", self.url, self.both.folders[0]]
+        words = ["upload", self.url, self.both.folders[0]]
         self.assertEqual(self.called(*words), (0, "parts 2, kept 1, new 1, removed 0\n", ""))
         self.assertEqual(self.both.answering(self.url), 0)
 

@@ -17,7 +17,7 @@ from codenav.client import http as client
 from codenav.client.http import found_in, request
 from codenav.faults import BadCall, NoReply
 from codenav.sets.manifest import NotAManifest
-from codenav.sets.publish import publish
+from codenav.sets.publish import claim
 from codenav.sets.publish.claim import Late
 from codenav.sets.publish.publish import Publish
 from codenav.sets.publish.store import Store
@@ -232,7 +232,7 @@ class Published(OnFile):
 
     def publish_after_break(self, folder: str) -> None:
         """Publishes where a claim of this very process may still be there."""
-        with mock.patch.object(publish, "is_alive", lambda record: False):
+        with mock.patch.object(claim, "is_alive", lambda record: False):
             self.publish(folder)
 
     def test_two_at_once(self) -> None:

@@ -22,7 +22,7 @@ from codenav.dumps.tables import rows
 from codenav.dumps.tables.graph import Graph
 from codenav.dumps.tables.reader import Reader
 from codenav.texts import places
-from tests.servers import replying
+from tests.servers import command, replying
 
 TOP = os.path.dirname(os.path.dirname(os.path.dirname(os.path.abspath(__file__))))
 RAW = os.path.join(TOP, "demo", "crate.raw.lsif")
@@ -278,10 +278,8 @@ class Prepare(unittest.TestCase):
         )
 
     def test_a_broken_pipe(self) -> None:
-        tool = os.path.join(TOP, "tools", "prepare-lsif")
-        with subprocess.Popen(
-            [tool, RAW, "-"], stdout=subprocess.PIPE, stderr=subprocess.PIPE
-        ) as run:
+        words = [*command("prepare"), RAW, "-"]
+        with subprocess.Popen(words, stdout=subprocess.PIPE, stderr=subprocess.PIPE) as run:
             run.stdout.close()  # type: ignore[union-attr]
             said = run.stderr.read()  # type: ignore[union-attr]
         self.assertNotIn(b"Traceback", said)

@@ -6,7 +6,6 @@ import io
 import json
 import os
 import subprocess
-import sys
 import tempfile
 import unittest
 from contextlib import redirect_stderr, redirect_stdout
@@ -18,7 +17,7 @@ from codenav.cli.upload import UPLOAD
 from codenav.client.http import address, found_in, request
 from codenav.program import Program
 from tests.repository import git_in
-from tests.servers import NOT_BUILT, TOP, OnServer, Relay, built_program
+from tests.servers import NOT_BUILT, OnServer, Relay, built_program, command
 from tests.test_explain import DOCUMENT, META, edge, vertex
 
 DUMP = """{"id":1,"type":"vertex","label":"metaData","version":"0.6.0"}
@@ -29,7 +28,6 @@ DUMP = """{"id":1,"type":"vertex","label":"metaData","version":"0.6.0"}
 {"id":6,"type":"edge","label":"contains","outV":2,"inVs":[3]}
 """
 RING = 2_500
-TOOL = [sys.executable, "-B", "-m", "codenav"]
 TAGS = "!_TAG_FILE_FORMAT\t2\t//\n!_TAG_FILE_SORTED\t1\t//\n%s\ta.c\t1\n"
 
 
@@ -164,11 +162,8 @@ class Uploads(OnServer):
             with self.subTest(path), Program(self.program).serve() as server:
                 url = server.url
                 with Relay(url, 1) as relay, open(self.files["A"], "rb") as file:
-                    words = [*TOOL, "upload", "--retry", relay.url, "app", path]
-                    where = os.path.join(TOP, "tools")
-                    subprocess.run(
-                        words, input=file.read(), capture_output=True, check=True, cwd=where
-                    )
+                    words = [*command("upload"), "--retry", relay.url, "app", path]
+                    subprocess.run(words, input=file.read(), capture_output=True, check=True)
                 self.assertEqual((self.there(url), relay.taken), (("A", ""), 2))
 
     def test_a_dump_that_is_never_accepted(self) -> None:

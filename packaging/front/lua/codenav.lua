@@ -8,7 +8,7 @@ local METHODS = {
 }
 local shared = ngx.shared.codenav
 
--- The side of the server that's in use, by the file in which codenav-supervise keeps it; called
+-- The side of the server that's in use, by the file in which `codenav supervise` keeps it; called
 -- when nginx starts, and when it's reloaded.
 function M.begin(path)
     local file = io.open(path)
@@ -128,7 +128,7 @@ function M.metrics()
     ngx.say("codenav_writes_held ", shared:get("held") and 1 or 0)
 end
 
--- What codenav-supervise asks for. /hold?seconds=N holds writes for so long. /turn?side=b goes to
+-- What `codenav supervise` asks for. /hold?seconds=N holds writes for so long. /turn?side=b goes to
 -- the other side and lets writes go on, where they were held until now, and else changes nothing
 -- (409). /use?side=b goes there whatever was before. Each answers what holds then.
 local COMMANDS = {

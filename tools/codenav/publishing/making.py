@@ -50,7 +50,7 @@ def profile_of(path: str) -> str:
     index that is split itself it isn't known."""
     if is_scip(path):
         return "2"
-    labels = [f'"{kind.result}"'.encode() for kind in KINDS if not kind.is_of("1")]
+    labels = [f'"{kind.result}"'.encode() for kind in KINDS if kind.profile == "2"]
     with open(path, "rb") as dump:
         return "2" if any(label in line for line in dump for label in labels) else "1"
 

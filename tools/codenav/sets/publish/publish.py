@@ -104,7 +104,7 @@ class Publish:
             raise NotAManifest(f"{name}{PARTS} isn't the manifest of a set: somebody else wrote it")
         if name in there and not self.in_place_of_project:
             raise BadCall(
-                f"a project {name} is on the server, which is asked in the set's place: tools/remove removes it"
+                f"a project {name} is on the server, which is asked in the set's place: `codenav remove` removes it"
             )
 
     def settle(self, old: Head) -> Head:

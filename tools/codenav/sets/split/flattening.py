@@ -42,7 +42,7 @@ def refuse_overlaps(flat: Flat) -> None:
             if before == (start, end) or start < end and open_ends and open_ends[-1] < end:
                 place = f"{uri}, {start // LINE}:{start % LINE}"
                 text = f"{place}: a range that equals or overlaps another (L12)"
-                raise NotADump(f"{text}; prepare-lsif prepares a dump")
+                raise NotADump(f"{text}; `codenav prepare` prepares a dump")
             if start < end:
                 open_ends.append(end)
             before = start, end
