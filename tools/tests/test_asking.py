@@ -5,6 +5,7 @@ import io
 import json
 import os
 import subprocess
+import sys
 import tempfile
 from contextlib import redirect_stderr, redirect_stdout
 
@@ -154,6 +155,16 @@ class Asking(OnServer):
         [found] = fetch("/names", {"name": "is_warm", "project": "app"}, "tags")
         self.assertEqual((code, tag), (0, {**found, **today}))
         self.assertEqual(self.asked("--json", *words, "names", "none")[:2], (1, '{"tags":[]}\n'))
+
+    def test_what_is_loaded(self) -> None:
+        """Modules that take long to load, as long as a question or more, aren't."""
+        slow = {"dataclasses", "inspect", "shutil", "subprocess", "tomllib", "codenav.program"}
+        code = f"import sys, codenav.cli.main, codenav.cli.ask; print({slow} & set(sys.modules))"
+        words = [sys.executable, "-c", code]
+        done = subprocess.run(
+            words, cwd=os.path.join(TOP, "tools"), capture_output=True, check=True
+        )
+        self.assertEqual(done.stdout, b"set()\n")
 
     def test_a_pipe_that_is_closed(self) -> None:
         words = [

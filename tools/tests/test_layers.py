@@ -30,7 +30,6 @@ LAYERS = {
 IMPORTS = ""
 LONG = """
 dumps.prepare.rewriting
-dumps.prepare.survey
 dumps.tables.graph
 """
 USES = ""

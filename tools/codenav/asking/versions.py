@@ -5,7 +5,6 @@ from typing import NamedTuple, Optional
 
 from codenav.asking.index import Index, stored
 from codenav.faults import NO_DOCUMENT, NO_DUMP, BadCall, NoReply
-from codenav.names import BRANCH
 from codenav.records import AT, record_in
 from codenav.sets.known import Away
 
