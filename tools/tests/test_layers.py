@@ -28,11 +28,7 @@ LAYERS = {
     "cli": "",
 }
 IMPORTS = ""
-LONG = """
-dumps.prepare.rewriting
-dumps.prepare.survey
-dumps.tables.graph
-"""
+LONG = ""
 USES = ""
 
 
