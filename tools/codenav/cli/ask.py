@@ -29,6 +29,7 @@ KINDS = {
     "hover": "what is said of it",
     "names": "the tags of a name, or those whose names begin with a text",
 }
+warn = Shown("codenav ask").warn
 
 
 class AskCall(Asking):
@@ -53,11 +54,6 @@ class Answer(NamedTuple):
 
     reply: dict[str, Any]
     lines: list[str]
-
-
-def warn(line: str) -> None:
-    """Says a line on the standard error."""
-    Shown("codenav ask").warn(line)
 
 
 def project_of(settings: Settings) -> Project:

@@ -138,6 +138,10 @@ class Place(NamedTuple):
     line: int
     character: int
 
+    def position(self) -> dict[str, int]:
+        """The position, as the server has it."""
+        return {"line": self.line, "character": self.character}
+
 
 def place_of(found: dict[str, Any], maps: Maps) -> Place:
     """The start of a place that the server found."""
