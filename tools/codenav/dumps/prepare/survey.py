@@ -1,4 +1,4 @@
-"""The first reading of a dump for `prepare-lsif`: its vertices and edges as numbers in arrays, so
+"""The first reading of a dump for `prepare`: its vertices and edges as numbers in arrays, so
 that memory grows with the ids alone.
 
 Each id gets a number when it's first named, also by an edge that comes before its vertex. Numbers
