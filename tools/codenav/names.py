@@ -6,15 +6,9 @@ from urllib.parse import urlsplit
 from codenav.faults import BadCall
 
 PROJECT = re.compile(r"[a-z0-9_-]{1,64}")
-
-
 SET = re.compile(r"[a-z0-9_-]{1,47}")
-
-
-BRANCH = "--"
-
-
 KEY = re.compile(r"[A-Za-z0-9_-]{1,64}")
+BRANCH = "--"
 
 
 def server_of(url: str) -> str:

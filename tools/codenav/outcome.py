@@ -53,6 +53,10 @@ class Outcome:
         """What's said of it to people."""
         return [*filter(None, [self.said]), *map(str, self.notes), *map(str, self.over)]
 
+    def is_too_large(self) -> bool:
+        """Whether it's over limits that its parts may be within: no element is over one itself."""
+        return self.over != () and all(one.code != "L01" for one in self.over)
+
     def is_whole(self, lenient: bool = False) -> bool:
         """Whether all is within the limits, and nothing was left out for a flaw, unless that's
         taken."""

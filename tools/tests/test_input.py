@@ -17,7 +17,7 @@ from codenav.cli.explain import WHY
 from codenav.cli.prepare import PREPARE
 from codenav.dumps import packed as packed_inputs
 from codenav.dumps.lsif import reading as lsif
-from codenav.dumps.prepare import rewriting, vertices
+from codenav.dumps.prepare import putting, vertices
 from tests.accepted import fault
 from tests.packages import needs
 from tests.servers import command
@@ -337,8 +337,8 @@ class Input(unittest.TestCase):
             edge(4, "item", 3, ids, shard=2),
             edge(5, "contains", 2, ids),
         )
-        with mock.patch.object(rewriting, "MOST_LINE_BYTES", 4096), mock.patch.object(
-            rewriting, "PART_BYTES", 2048
+        with mock.patch.object(putting, "MOST_LINE_BYTES", 4096), mock.patch.object(
+            putting, "PART_BYTES", 2048
         ), mock.patch.object(vertices, "MOST_TEXT_BYTES", 4096):
             status, out, said = self.called(body)
         self.assertEqual(status, 0, said)

@@ -265,7 +265,7 @@ def with_all_results(part: Part) -> None:
             if firsts[request] == result:
                 bound = [(q, part.here(q, r)) for q, r in enumerate(firsts) if r >= 0 and q != 2]
                 moniker = part.moniker(True, ("codenav-set", name, None))
-                part.result_set([(q, own) for q, own in bound if own is not None], [moniker])
+                part.out.result_set([(q, own) for q, own in bound if own is not None], [moniker])
 
 
 def without_a_number(flat: Flat, results: list[int]) -> dict[int, int]:

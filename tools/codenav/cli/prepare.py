@@ -1,19 +1,26 @@
 """`codenav prepare`."""
 
 import argparse
-import sys
-from dataclasses import dataclass, field
-from typing import Optional
+import os
+from contextlib import contextmanager, suppress
+from dataclasses import dataclass, field, replace
+from typing import Iterator, Optional
 
 from codenav.cli.command import Command
 from codenav.cli.show import Shown
-from codenav.dumps.dump import opened_dump
+from codenav.dumps.dump import Dump, opened_dump
 from codenav.dumps.lsif.reading import Source
 from codenav.dumps.prepare.plan import Options
 from codenav.dumps.prepare.prepare import prepare
 from codenav.dumps.scip.options import ScipOptions
-from codenav.outcome import Prepared
+from codenav.faults import BadCall
+from codenav.files import of_file
+from codenav.limits import MOST_ELEMENTS
+from codenav.names import set_name
+from codenav.outcome import Outcome
 from codenav.progress import Shows
+from codenav.sets.files import MANIFEST
+from codenav.sets.split.split import SetFiles, SplitOptions, split
 from codenav.texts.columns import ENCODINGS
 
 ADVICE = "leave documents out by --without GLOB, drop what has no effect by --strip, or index parts of the code as projects of their own"
@@ -33,16 +40,30 @@ class PrepareCall:
     source: Optional[str] = None
     encoding: Optional[str] = None
     root: Optional[str] = None
+    set: bool = False
+    name: str = ""
+    revision: str = ""
+    map: list[str] = field(default_factory=list)
+    tags: str = ""
+    tags_folder: str = os.curdir
+    elements: int = MOST_ELEMENTS
+    jobs: int = 0
     input: str = ""
     output: str = ""
 
+    def of_index(self) -> ScipOptions:
+        """How an index is read."""
+        return ScipOptions(
+            self.source, self.encoding, self.root, tuple(self.without), self.keep_file_ranges
+        )
 
-def add_prepare(parser: argparse.ArgumentParser) -> None:
-    """The words of `prepare`."""
+
+def add_flags(parser: argparse.ArgumentParser) -> None:
+    """The options of `prepare` that have no value."""
     for option, text in (
         (
             "--strip",
-            "drop all that has no effect: elements of other labels, and the members `contents` and `tag`",
+            "drop all of LSIF that has no effect: elements of other labels, and the members `contents` and `tag`",
         ),
         (
             "--keep-file-ranges",
@@ -50,15 +71,63 @@ def add_prepare(parser: argparse.ArgumentParser) -> None:
         ),
         (
             "--keep-unique",
-            "join projects by monikers that are unique in a document, project, group or workspace alone: for projects of one workspace",
+            "join projects by monikers of LSIF that are unique in a document, project, group or workspace alone: for projects of one workspace",
         ),
-        ("--lenient", "end with 0 where something was left out for a flaw"),
+        (
+            "--lenient",
+            "end with 0 where something was left out for a flaw, and leave out of a set what can't be had: documents that are over the limits by "
+            "themselves, and places over too many referenceResults",
+        ),
         (
             "--report",
-            "say how many rows the server makes of the dump, which ranges were merged and which labels have no effect",
+            "say of LSIF how many rows the server makes of the dump, which ranges were merged and which labels have no effect",
         ),
     ):
         parser.add_argument(option, action="store_true", help=text)
+
+
+def add_set(parser: argparse.ArgumentParser) -> None:
+    """The options of a set."""
+    group = parser.add_argument_group("of a set")
+    group.add_argument("--set", action="store_true", help="make a set of what isn't too large too")
+    for option, metavar, text in (
+        (
+            "--name",
+            "NAME",
+            "the set's name, of at most 47 characters of a-z 0-9 _ -; that of OUT without it",
+        ),
+        ("--revision", "REV", "the revision of the code, which the manifest keeps"),
+        ("--tags", "FILE", "a tags file, which is cut as the dump is"),
+        (
+            "--tags-folder",
+            "FOLDER",
+            "where the tags file was made, the folder of the call without it",
+        ),
+    ):
+        group.add_argument(option, metavar=metavar, help=text)
+    group.add_argument(
+        "--map",
+        action="append",
+        metavar="URI=FOLDER",
+        help="documents below URI are the files of FOLDER, whose digests the manifest keeps",
+    )
+    group.add_argument(
+        "--elements",
+        type=int,
+        metavar="N",
+        help="at most so many elements a part, 100000 without it",
+    )
+    group.add_argument(
+        "--jobs",
+        type=int,
+        metavar="N",
+        help="how many processes write, one for each processor that the call may use without it",
+    )
+
+
+def add_prepare(parser: argparse.ArgumentParser) -> None:
+    """The words of `prepare`."""
+    add_flags(parser)
     parser.add_argument(
         "--without",
         action="append",
@@ -83,45 +152,115 @@ def add_prepare(parser: argparse.ArgumentParser) -> None:
     parser.add_argument(
         "--profile",
         choices=["1", "2"],
-        help="of which profile the report speaks, 1 without it",
+        help="how the dump is read, for the report and a set; 1 without it",
     )
+    add_set(parser)
     parser.add_argument(
         "input", metavar="IN", help="the indexer's dump or index, or - for the standard input"
     )
-    parser.add_argument("output", metavar="OUT", help="the dump, or - for the standard output")
+    parser.add_argument(
+        "output",
+        metavar="OUT",
+        help="the dump, or - for the standard output; of a set the folder of its parts and the manifest, whose cuts are kept while the parts fit",
+    )
 
 
-def prepared(call: PrepareCall, shows: Shows) -> Prepared:
-    """Writes the dump of what a call names."""
-    without = tuple(call.without)
-    with opened_dump(call.input) as dump:
-        if isinstance(dump, Source):
-            options = Options(
-                call.strip,
-                call.keep_file_ranges,
-                call.keep_unique,
-                without,
-                call.source,
-                call.root,
-                call.report,
-                call.profile,
-            )
-            return prepare(dump, call.output, options, shows)
-        # loaded here: it needs a package that isn't needed for LSIF
-        from codenav.dumps.scip.conversion import convert
-
-        of_index = ScipOptions(
-            call.source, call.encoding, call.root, without, call.keep_file_ranges
+def whole(dump: Dump, call: PrepareCall, path: str, shows: Shows) -> Outcome:
+    """Writes the dump of what is read into a file; answers what came of it."""
+    if isinstance(dump, Source):
+        options = Options(
+            call.strip,
+            call.keep_file_ranges,
+            call.keep_unique,
+            tuple(call.without),
+            call.source,
+            call.root,
+            call.report,
+            call.profile,
         )
-        return convert(dump, call.output, of_index, shows)
+        return prepare(dump, path, options, shows).outcome
+    # loaded here: it needs a package that isn't needed for LSIF
+    from codenav.dumps.scip.conversion import convert
+
+    return convert(dump, path, call.of_index(), shows).outcome
+
+
+def as_set(dump: Dump, call: PrepareCall, path: str, shows: Shows) -> SetFiles:
+    """Splits an index, or the dump that was prepared, into the folder OUT."""
+    if os.path.isfile(call.output):
+        raise BadCall(f"{call.output}: too large for one project, and no folder for a set")
+    options = SplitOptions(
+        set_name(call.name or os.path.basename(os.path.abspath(call.output))),
+        call.profile,
+        call.revision,
+        tuple(call.map),
+        call.tags,
+        call.tags_folder,
+        call.lenient,
+        call.elements,
+        call.jobs,
+    )
+    if isinstance(dump, Source):
+        return split(path, options, call.output, shows)
+    return split(dump, options, call.output, shows, call.of_index())
+
+
+@contextmanager
+def beside(target: str) -> Iterator[str]:
+    """A path beside a file for what may take its place, and goes where it doesn't. Faults have the
+    file's name."""
+    path = f"{os.path.realpath(target)}.{os.getpid()}.whole"
+    try:
+        yield path
+    except OSError as fault:
+        fault.filename = target if fault.filename == path else fault.filename
+        raise
+    finally:
+        with suppress(FileNotFoundError):
+            os.unlink(path)
+
+
+def said(outcome: Outcome) -> list[str]:
+    """What's said of a dump that is no set."""
+    return [*outcome.lines(), *([ADVICE] if outcome.over else [])]
+
+
+def into_file(dump: Dump, call: PrepareCall, shows: Shows) -> tuple[list[str], bool]:
+    """Writes OUT: a dump, or a folder with a set. Answers what's said of it, and whether all of it
+    is there and within the limits."""
+    is_set = call.set or os.path.isfile(os.path.join(call.output, MANIFEST))
+    with beside(call.output) as path:
+        lines, is_whole = list[str](), True
+        if isinstance(dump, Source) or not is_set:
+            outcome = whole(dump, call, path, shows)
+            if not is_set and not outcome.is_too_large():
+                with of_file(call.output):
+                    os.replace(path, os.path.realpath(call.output))
+                return said(outcome), outcome.is_whole(call.lenient)
+            if isinstance(dump, Source):
+                lines = outcome.lines()
+                is_whole = replace(outcome, over=()).is_whole(call.lenient)
+        files = as_set(dump, call, path, shows)
+        return [*lines, *files.lines()], is_whole and files.reading.is_whole(call.lenient)
 
 
 def run_prepare(call: PrepareCall) -> int:
-    """Prepares a dump, and says what came of it."""
-    outcome = prepared(call, Shown("codenav prepare")).outcome
-    for line in [*outcome.lines(), *([ADVICE] if outcome.over else [])]:
-        print(f"codenav prepare: {line}", file=sys.stderr)
-    return 0 if outcome.is_whole(call.lenient) else 1
+    """Makes a dump or a set, and says what came of it."""
+    shows = Shown("codenav prepare")
+    is_file = call.output != "-" and (
+        os.path.isfile(call.output) or os.path.isdir(call.output) or not os.path.exists(call.output)
+    )
+    with opened_dump(call.input) as dump:
+        if is_file:
+            lines, is_whole = into_file(dump, call, shows)
+        elif call.set:
+            raise BadCall(f"{call.output}: a set is a folder")
+        else:
+            outcome = whole(dump, call, call.output, shows)
+            lines, is_whole = said(outcome), outcome.is_whole(call.lenient)
+    for line in lines:
+        shows.warn(line)
+    return 0 if is_whole else 1
 
 
 PREPARE = Command(
@@ -130,10 +269,12 @@ PREPARE = Command(
     "indexers write and the server refuses is mended where no fact has to be invented, and what "
     "would be answered wrongly is written so that it isn't. IN may be packed by gzip or zstd, in "
     "UTF-16, with a byte order mark, or one JSON array. What was mended and what was left out is "
-    "said, each kind with its count and its first line.",
+    "said, each kind with its count and its first line. What is too large for one project becomes a "
+    "set of parts, each a dump of its own; asked through a tool that knows sets they answer as the "
+    "whole dump would.",
     PrepareCall,
     add_prepare,
     run_prepare,
-    epilog="status: 0; 1 where something was left out for a flaw, or what was written is over a limit of the server; "
+    epilog="status: 0; 1 where something was left out for a flaw, or what was written is over a limit of the server and no set; "
     "2 where the input can't be prepared, and then OUT stays as it was",
 )

@@ -13,6 +13,8 @@ from codenav.faults import BadCall
 if TYPE_CHECKING:
     from codenav.dumps.scip.messages import IndexFile
 
+Dump = Union[Source, "IndexFile"]
+
 HEAD_BYTES = 4096
 FIELDS = (b"\x0a", b"\x12", b"\x1a")
 """The tags of `metadata`, `documents` and `external_symbols`."""
@@ -44,7 +46,7 @@ def is_scip(path: str) -> bool:
 
 
 @contextmanager
-def opened_dump(path: str) -> Iterator[Union[Source, IndexFile]]:
+def opened_dump(path: str) -> Iterator[Dump]:
     """What is in a file, or on the standard input for `-`: a `Source` where it's no index. Raises
     NotADump where what it begins with can't be unpacked, or it's an index without metadata."""
     name = "standard input" if path == "-" else path

@@ -10,6 +10,7 @@ from typing import BinaryIO, Callable, Iterator, Optional
 
 from codenav.addresses import root_of
 from codenav.dumps.lsif.reading import Source
+from codenav.dumps.lsif.writer import LineWriter
 from codenav.dumps.prepare.joints import join_equal
 from codenav.dumps.prepare.passes import (
     bind,
@@ -21,7 +22,7 @@ from codenav.dumps.prepare.passes import (
 )
 from codenav.dumps.prepare.plan import Options, Plan
 from codenav.dumps.prepare.positions import convert_positions
-from codenav.dumps.prepare.rewriting import Rewriting, Writer
+from codenav.dumps.prepare.rewriting import Rewriting
 from codenav.dumps.prepare.survey import Survey
 from codenav.dumps.prepare.unreached import drop_unreached
 from codenav.dumps.prepare.vertices import VERSION, Mender
@@ -30,7 +31,6 @@ from codenav.dumps.tables.graph import Graph
 from codenav.dumps.tables.reader import Reader
 from codenav.files import whole_file
 from codenav.kinds import KINDS
-from codenav.limits import excesses
 from codenav.outcome import MERGED, NO_EFFECT, Note, Notes, Outcome, Prepared
 from codenav.progress import Shows
 
@@ -77,13 +77,13 @@ def surveyed(source: Source, options: Options, notes: Notes) -> Survey:
     return survey
 
 
-def written(source: Source, out: BinaryIO, plan: Plan, reader: Optional[Reader]) -> Writer:
+def written(source: Source, out: BinaryIO, plan: Plan, reader: Optional[Reader]) -> LineWriter:
     """Reads the dump again and writes it prepared. The reader, where there is one, takes each
     element."""
     before = plan.survey.mender
     mender = Mender(Notes(), before.strip, before.keep_unique, before.root)
-    writer = Writer(out, reader)
-    Rewriting(plan, mender, writer).run(source.rows)
+    writer = LineWriter(out)
+    Rewriting(plan, mender, writer, reader).run(source.rows)
     out.flush()
     return writer
 
@@ -141,7 +141,7 @@ def prepare(source: Source, out_path: str, options: Options, shows: Shows) -> Pr
         "equal ranges": plan.equal_ranges,
     }
     said = [*source.shape.notes(), *notes.all()]
-    over = excesses(writer.elements, writer.body_bytes, writer.longest_line)
+    over = [*writer.excesses()]
     if reader is not None:
         reader.forget()
         tallies = rows.tallies(reader.graph)

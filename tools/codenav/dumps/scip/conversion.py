@@ -14,7 +14,6 @@ from codenav.dumps.scip.options import ScipOptions
 from codenav.dumps.scip.survey import Survey
 from codenav.dumps.scip.writer import Conversion
 from codenav.files import whole_file
-from codenav.limits import excesses
 from codenav.outcome import Notes, Outcome, Prepared
 from codenav.progress import Shows
 
@@ -74,5 +73,4 @@ def convert(index: IndexFile, out_path: str, options: ScipOptions, shows: Shows)
     with whole_file(out_path) as out:
         writer = Writer(out)
         outcome = converted(index, writer, options, shows)
-    over = excesses(writer.elements, writer.body_bytes, writer.longest_line)
-    return Prepared(out_path, replace(outcome, over=tuple(over)))
+    return Prepared(out_path, replace(outcome, over=writer.excesses()))

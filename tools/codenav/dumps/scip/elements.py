@@ -1,7 +1,9 @@
 """What the elements of a conversion go to, and how they're written as a dump."""
 
 from json import dumps
-from typing import Any, BinaryIO, Protocol
+from typing import Any, Protocol
+
+from codenav.dumps.lsif.writer import LineWriter
 
 LAST = 0x7FFFFFFF
 
@@ -28,23 +30,13 @@ class Elements(Protocol):
         """Takes the places of a result in a document, or the results that it leads to."""
 
 
-class Writer:
-    """Writes elements, whose ids are their lines, and counts them and their bytes. Most of them
-    have nothing but numbers and labels, and need no escapes."""
-
-    def __init__(self, out: BinaryIO) -> None:
-        self.out = out
-        self.elements = self.body_bytes = self.longest_line = 0
+class Writer(LineWriter):
+    """Writes elements, whose ids are their lines. Most of them have nothing but numbers and labels,
+    and need no escapes."""
 
     def line(self, rest: str) -> int:
         """Writes an element by the text behind its id, which it answers."""
-        self.elements += 1
-        text = f'{{"id":{self.elements},{rest}'.encode()
-        self.out.write(text + b"\n")
-        size = len(text)
-        self.body_bytes += size + 1
-        if size > self.longest_line:
-            self.longest_line = size
+        self.put(f'{{"id":{self.elements + 1},{rest}'.encode())
         return self.elements
 
     def vertex(self, label: str, **members: Any) -> int:

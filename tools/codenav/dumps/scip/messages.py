@@ -107,7 +107,8 @@ class IndexFile:
 
     def find(self, path_of: Callable[[str, int], str]) -> None:
         """Finds the messages of documents in their order, each filed under a path; without one,
-        which `path_of` answers by an empty text, it's left out."""
+        which `path_of` answers by an empty text, it's left out. It may be called again."""
+        self.pieces, self.external = {}, []
         for number, piece in messages(self.file, self.name):
             if number == EXTERNAL_FIELD:
                 self.external.append(piece)

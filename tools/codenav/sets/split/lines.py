@@ -4,14 +4,18 @@ from __future__ import annotations
 
 import json
 from array import array
-from typing import Any, BinaryIO, Protocol, Sequence
+from typing import Any, BinaryIO, Iterable, Optional, Protocol, Sequence
 
 from codenav.dumps.tables.disk_arrays import Numbers
+from codenav.dumps.tables.graph import EDGES, Key
 
 MOST_ENDS = 20_000
 ELEMENT_BYTES = 64
 RANGE_BYTES = 150
 ROLE_NAMES = ("definitions", "references")
+Package = tuple[str, str, str]
+Bound = list[tuple[int, int]]
+"""Requests with their results."""
 
 
 def as_text(value: Any) -> str:
@@ -36,6 +40,7 @@ class Counter:
         self.count = 0
         self.bytes = 0
         self.items = 0
+        self.packages: dict[Package, int] = {}
 
     def vertex(self, label: str, more: str = "") -> int:
         """A vertex; answers its id."""
@@ -73,13 +78,35 @@ class Counter:
         self.bytes += ELEMENT_BYTES + 6 * self.flat.hover_bytes[result]
         return self.count
 
-    def package(self, package: tuple[str, str, str]) -> int:
-        """What is said of a package; answers its id."""
-        manager, name, version = package
-        members = (
-            f',"manager":{as_text(manager)},"name":{as_text(name)},"version":{as_text(version)}'
-        )
-        return self.vertex("packageInformation", members)
+    def package(self, package: Package) -> int:
+        """What is said of a package, which is written once; answers its id."""
+        if package not in self.packages:
+            manager, name, version = map(as_text, package)
+            members = f',"manager":{manager},"name":{name},"version":{version}'
+            self.packages[package] = self.vertex("packageInformation", members)
+        return self.packages[package]
+
+    def moniker(self, kind: str, key: Key) -> int:
+        """A moniker with its package; answers its id."""
+        scheme, identifier, package = key
+        members = f',"scheme":{as_text(scheme)},"identifier":{as_text(identifier)}'
+        own = self.vertex("moniker", f',"kind":"{kind}"{members}')
+        if package is not None:
+            self.edge("packageInformation", own, self.package(package))
+        return own
+
+    def result_set(
+        self, results: Bound, monikers: Iterable[int], after: Optional[int] = None
+    ) -> int:
+        """A result set with results and monikers, which goes on to another; answers its id."""
+        own = self.vertex("resultSet")
+        for request, result in results:
+            self.edge(EDGES[request], own, result)
+        for moniker in monikers:
+            self.edge("moniker", own, moniker)
+        if after is not None:
+            self.edge("next", own, after)
+        return own
 
 
 class Lines(Counter):

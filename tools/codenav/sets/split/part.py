@@ -12,13 +12,12 @@ import json
 from array import array
 from typing import Any, Callable, Iterable, Optional, Sequence
 
-from codenav.dumps.tables.graph import BY_IMPORT, EDGES, HOVER, NONE, REFERENCES, RESULTS, Key
+from codenav.dumps.tables.graph import BY_IMPORT, HOVER, NONE, REFERENCES, RESULTS, Key
 from codenav.sets.split.crossing import Cut
-from codenav.sets.split.lines import ROLE_NAMES, Counter, Lines, as_text, hover_contents
+from codenav.sets.split.lines import ROLE_NAMES, Bound, Counter, Lines, as_text, hover_contents
 
 SCHEME = "codenav-set"
 SetMark = tuple[bool, str]
-Bound = list[tuple[int, int]]
 
 
 class Part:
@@ -143,38 +142,13 @@ class Part:
 
     def moniker(self, is_export: bool, key: Key) -> int:
         """A moniker with its package."""
-
-        def make() -> int:
-            scheme, identifier, package = key
-            kind = "export" if is_export else "import"
-            members = f',"scheme":{as_text(scheme)},"identifier":{as_text(identifier)}'
-            own = self.out.vertex("moniker", f',"kind":"{kind}"{members}')
-            if package is not None:
-                self.out.edge("packageInformation", own, self.package(package))
-            return own
-
-        return self.once(("moniker", is_export, key), make) or 0
-
-    def package(self, package: tuple[str, str, str]) -> int:
-        """What is said of a package."""
-        return self.once(("package", package), lambda: self.out.package(package)) or 0
+        kind = "export" if is_export else "import"
+        what = ("moniker", is_export, key)
+        return self.once(what, lambda: self.out.moniker(kind, key)) or 0
 
     def own_monikers(self, marks: Iterable[int]) -> list[int]:
         """The monikers of marks of the dump."""
         return [self.moniker(bool(mark & 1), self.flat.keys[mark >> 1]) for mark in sorted(marks)]
-
-    def result_set(
-        self, results: Bound, monikers: Iterable[int], after: Optional[int] = None
-    ) -> int:
-        """A result set with results and monikers, which goes on to another."""
-        own = self.out.vertex("resultSet")
-        for request, result in results:
-            self.out.edge(EDGES[request], own, result)
-        for moniker in monikers:
-            self.out.edge("moniker", own, moniker)
-        if after is not None:
-            self.out.edge("next", own, after)
-        return own
 
     def without_results(self, marks: frozenset[int], names: frozenset[SetMark]) -> Optional[int]:
         """A result set that has monikers alone, or None where there is none."""
@@ -182,7 +156,7 @@ class Part:
         def make() -> int:
             monikers = self.own_monikers(marks)
             monikers += [self.moniker(out, (SCHEME, name, None)) for out, name in sorted(names)]
-            return self.result_set([], monikers)
+            return self.out.result_set([], monikers)
 
         return self.once(("alone", marks, names), make) if marks or names else None
 
@@ -195,8 +169,8 @@ class Part:
         after = self.without_results(every - shown, frozenset(names))
         if results:
             self.shown |= {(firsts, mark) for mark in shown}
-            after = self.result_set(results, self.own_monikers(shown), after)
-        return self.result_set(before, [], after) if before else after
+            after = self.out.result_set(results, self.own_monikers(shown), after)
+        return self.out.result_set(before, [], after) if before else after
 
     def is_shown(self, firsts: int, mark: int) -> bool:
         """Whether others find these results by this mark in the whole dump, and may in a part."""
@@ -251,7 +225,7 @@ class Part:
                     own = self.hover(result) if request == HOVER else self.here(request, result)
                     if own is not None:
                         results.append((request, own))
-            self.result_set(results, self.own_monikers(marks))
+            self.out.result_set(results, self.own_monikers(marks))
 
     def order(self, firsts: int, marks: list[int]) -> tuple[Any, ...]:
         """The order of such a set among others, by all that it has, so that it doesn't depend on
@@ -281,4 +255,4 @@ class Part:
             moniker = self.moniker(True, (SCHEME, name, None))
             own = self.here(request, result)
             if own is not None:
-                self.result_set([(request, own)], [moniker])
+                self.out.result_set([(request, own)], [moniker])

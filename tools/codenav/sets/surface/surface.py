@@ -11,7 +11,7 @@ from array import array
 from itertools import groupby
 from typing import BinaryIO, Iterator
 
-from codenav.dumps.tables.graph import EDGES, HOVER, NONE, REFERENCES, RESULTS, Graph
+from codenav.dumps.tables.graph import HOVER, NONE, REFERENCES, RESULTS, Graph
 from codenav.dumps.tables.reader import read_graph
 from codenav.faults import NotADump
 from codenav.files import whole_file
@@ -34,7 +34,6 @@ class Surface:
         self.ranges = array("i", [0]) * len(graph.start)
         self.own_results: dict[int, int] = {}
         self.monikers: dict[int, int] = {}
-        self.packages: dict[tuple[str, str, str], int] = {}
 
     def joined_packages(self) -> tuple[str, ...]:
         """The packages that the dump imports or exports something of, an empty text where a key has
@@ -135,26 +134,14 @@ class Surface:
     def write_moniker(self, own: int) -> None:
         """A moniker with its package."""
         scheme, identifier, kind = self.graph.monikers[own]
-        members = f',"scheme":{as_text(scheme)},"identifier":{as_text(identifier)}'
-        self.monikers[own] = self.lines.vertex("moniker", f',"kind":"{kind}"{members}')
         package = self.graph.package_of[own]
-        if package != NONE:
-            target = self.package(self.graph.packages[package])
-            self.lines.edge("packageInformation", self.monikers[own], target)
-
-    def package(self, package: tuple[str, str, str]) -> int:
-        """What is said of a package, which is written once."""
-        if package not in self.packages:
-            self.packages[package] = self.lines.package(package)
-        return self.packages[package]
+        key = scheme, identifier, None if package == NONE else self.graph.packages[package]
+        self.monikers[own] = self.lines.moniker(kind, key)
 
     def write_bearer(self, bearer: Bearer) -> None:
         """A result set, on no range's chain, that others find in a vertex's place."""
-        own = self.lines.vertex("resultSet")
-        for request, result in bearer.results:
-            self.lines.edge(EDGES[request], own, self.own_results[result])
-        for moniker in bearer.monikers:
-            self.lines.edge("moniker", own, self.monikers[moniker])
+        results = [(request, self.own_results[result]) for request, result in bearer.results]
+        self.lines.result_set(results, [self.monikers[own] for own in bearer.monikers])
 
 
 def write_surface(
