@@ -28,10 +28,7 @@ LAYERS = {
     "cli": "",
 }
 IMPORTS = ""
-LONG = """
-dumps.prepare.rewriting
-dumps.tables.graph
-"""
+LONG = ""
 USES = ""
 
 

@@ -541,11 +541,14 @@ class Scip(unittest.TestCase):
             ("MOST_BODY_BYTES", 99, "bytes, the server takes 99 (H04)"),
             ("MOST_LINE_BYTES", 98, "bytes in the longest line, the server takes 98 (L01)"),
         ):
-            with mock.patch.object(limits, name, most):
-                status, body, text = self.converted(SAMPLE)
+            with tempfile.NamedTemporaryFile() as file, mock.patch.object(limits, name, most):
+                file.write(SAMPLE)
+                file.flush()
+                with redirect_stderr(io.StringIO()) as warned:
+                    status = PREPARE.main([file.name, os.devnull])
+            text = warned.getvalue()
             self.assertEqual(
-                (status, body is None, text.count("over the limits: "), f"{said}\n" in text),
-                (1, False, 1, True),
+                (status, text.count("over the limits: "), f"{said}\n" in text), (1, 1, True)
             )
 
     def test_the_demo_crate(self) -> None:

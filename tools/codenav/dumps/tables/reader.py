@@ -8,13 +8,12 @@ import hashlib
 import json
 import os
 from functools import partial
-from typing import BinaryIO, Callable, Optional
+from typing import BinaryIO, Callable
 
 from codenav.addresses import is_address
-from codenav.dumps.lsif.elements import Element, Id, is_id
-from codenav.dumps.lsif.json_values import scan
-from codenav.dumps.lsif.reading import MOST_ELEMENT_BYTES, SPACE
-from codenav.dumps.prepare.vertices import MOST_NUMBER, VERSION
+from codenav.dumps.lsif.elements import Element, Id
+from codenav.dumps.lsif.reading import MOST_ELEMENT_BYTES
+from codenav.dumps.prepare.vertices import MOST_NUMBER
 from codenav.dumps.tables.graph import (
     ASKED,
     DOCUMENT,
@@ -32,20 +31,9 @@ from codenav.dumps.tables.graph import (
     SET,
     Graph,
 )
+from codenav.dumps.tables.lines import Faulty, element_of, first_element, text_of
 from codenav.faults import NotADump
 from codenav.progress import Shows
-
-
-class Faulty(Exception):
-    """An element that the server would refuse too; the text says why."""
-
-
-def text_of(element: Element, member: str, default: Optional[str] = None) -> str:
-    """A member that has to be a text."""
-    value = element.get(member, default)
-    if not isinstance(value, str):
-        raise Faulty(f"its {member} is no text (L07)")
-    return value
 
 
 class Reader:
@@ -256,32 +244,6 @@ class Reader:
         ends = source // KINDS, self.to(element["inV"], MONIKER)
         for one, other in (ends, ends[::-1]):
             self.graph.attached.setdefault(one, []).append(other)
-
-
-def element_of(line: bytes) -> Element:
-    """The element of a line; raises Faulty where it's none."""
-    try:
-        text = line.decode("utf-8").strip(SPACE)
-        value, end = scan(text, 0)
-    except (ValueError, RecursionError, StopIteration):
-        raise Faulty("not JSON (L02)") from None
-    if end != len(text):
-        raise Faulty("not JSON (L02)")
-    if type(value) is not dict or not is_id(value.get("id")):
-        raise Faulty("no element with an id (L03)")
-    if value.get("type") not in ("vertex", "edge") or type(value.get("label")) is not str:
-        raise Faulty("no element with a type and a label (L05)")
-    return value
-
-
-def first_element(element: Element) -> None:
-    """Refuses a first element that isn't the metaData of a prepared dump."""
-    if (element["type"], element["label"]) != ("vertex", "metaData"):
-        raise Faulty("not the metaData that a dump begins with (L06)")
-    if element.get("version") != VERSION:
-        raise Faulty(f"of version {element.get('version')} and not {VERSION}")
-    if element.get("positionEncoding", "utf-16") != "utf-16":
-        raise Faulty("its positions aren't counted in utf-16 (L06)")
 
 
 def read_graph(source: BinaryIO, name: str, profile: str, shows: Shows) -> Graph:
