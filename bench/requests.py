@@ -84,12 +84,11 @@ def by_serve(program: str, kind: str, count: int) -> None:
     """Prints what a request costs `serve`, and what a client sees."""
     system, times = bare(count), []
     server = Program(program).serve(requests=count + 1)
-    port = server.port
-    ask(port, request("PUT", "/projects/app/lsif?key=k1", DUMP.read_bytes()))
+    ask(server.port, request("PUT", "/projects/app/lsif?key=k1", DUMP.read_bytes()))
     text = b"GET %s HTTP/1.1\r\nHost: localhost\r\n\r\n" % TARGETS[kind].encode()
     for _ in range(count):
         begin = time.perf_counter()
-        ask(port, text)
+        ask(server.port, text)
         times.append(time.perf_counter() - begin)
     _, status, usage = os.wait4(server.pid, 0)
     server.process.returncode = os.waitstatus_to_exitcode(status)

@@ -25,6 +25,7 @@ from dataclasses import dataclass, field
 from typing import Any, Iterator
 
 import servers  # noqa: F401  (the path of the tools)
+from splitting import split_words
 from watched import tool
 
 from codenav.asking.index import Index
@@ -106,7 +107,7 @@ def called(used: dict[str, float], *words: str) -> None:
     """Calls a tool."""
     used["memory"], before = 0, children_seconds()
     with tempfile.TemporaryFile() as said:
-        with subprocess.Popen(tool(*words), stdout=said, stderr=said) as call:
+        with subprocess.Popen(words, stdout=said, stderr=said) as call:
             while call.poll() is None:
                 used["memory"] = max(used["memory"], shared_memory(call.pid))
                 try:
@@ -253,14 +254,14 @@ def head_of(folder: str) -> Head:
 def split(name: str, path: str, own: str, pid: int) -> None:
     """Splits a dump."""
     with stage(f"{name}, split", pid) as used:
-        words = ["--jobs", PROCESSES, "--name", name.split()[0], path, own]
-        called(used, "split-lsif", *words)
+        options = ["--jobs", PROCESSES, "--name", name.split()[0]]
+        called(used, *split_words(path, own, *options))
 
 
 def published(name: str, url: str, own: str, pid: int) -> None:
     """Publishes what is in a folder."""
     with stage(f"{name}, published", pid) as used:
-        called(used, "upload", url, own)
+        called(used, *tool("upload", url, own))
 
 
 def changed(large: str, own: str, uri: str, pid: int) -> str:

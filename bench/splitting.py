@@ -6,7 +6,11 @@ them. The parts have to be equal. It needs python3-protobuf.
 
 hostile: dumps of hostile shapes. What is refused has to be refused in one line, and with --lenient
 it has to be left out.
+
+alone: splits a prepared dump or an index, as the others have it done in a process of its own.
 """
+
+from __future__ import annotations
 
 import argparse
 import filecmp
@@ -16,13 +20,21 @@ import os
 import resource
 import sys
 import tempfile
-from typing import BinaryIO, Iterator
+from typing import TYPE_CHECKING, BinaryIO, Iterator, Union
 
 from copies import field, varint
 from servers import Spent, with_memory
 from watched import tool
 
+from codenav.dumps.dump import opened_dump
+from codenav.dumps.lsif.reading import Source
+from codenav.faults import Fault
+from codenav.progress import Quiet
+from codenav.sets.split.split import SplitOptions, split
 from tests.hostile_dumps import SHAPES, Element
+
+if TYPE_CHECKING:
+    from codenav.dumps.scip.messages import IndexFile
 
 LENIENT = ("alone makes", "referenceResults")
 MOST_MEMORY = 6 << 30
@@ -59,11 +71,30 @@ def write_index(out: BinaryIO, symbols: int, count: int) -> None:
         out.write(field(2, body + bytes([6 << 3, 2])))
 
 
-def called(word: str, *words: str) -> Spent:
-    """Calls a tool, and prints what it takes and what it says last."""
-    own, memory = with_memory(*tool(word, *words))
+def split_words(dump: str, folder: str, *options: str) -> list[str]:
+    """What splits a dump or an index in a process of its own."""
+    return [sys.executable, "-B", os.path.abspath(__file__), "alone", *options, dump, folder]
+
+
+def split_alone(dump: str, folder: str, options: SplitOptions) -> int:
+    """Splits a dump or an index, and says what came of it; answers 2 where it's refused."""
+    try:
+        with opened_dump(dump) as source:
+            given: Union[str, IndexFile] = dump if isinstance(source, Source) else source
+            lines = split(given, options, folder, Quiet()).lines()
+    except Fault as fault:
+        lines, status = [str(fault)], fault.status
+    else:
+        status = 0
+    print("; ".join(lines), file=sys.stderr)
+    return status
+
+
+def called(what: str, words: list[str]) -> Spent:
+    """Calls a program, and prints what it takes and what it says last."""
+    own, memory = with_memory(*words)
     print(
-        f"    {word}: status {own.status}, {own.passed:.1f} s, processor {own.used:.1f} s,"
+        f"    {what}: status {own.status}, {own.passed:.1f} s, processor {own.used:.1f} s,"
         f" {memory >> 20} MB: {(own.error.splitlines() or [''])[-1]}",
         flush=True,
     )
@@ -77,10 +108,10 @@ def compared(symbols: int, count: int, folder: str) -> None:
         write_index(out, symbols, count)
     print(f"{symbols} symbols, {symbols + count * USES} occurrences", flush=True)
     folders = [os.path.join(folder, name, "code") for name in ("of_dump", "of_index")]
-    called("scip-to-lsif", "--lenient", index, dump)
-    called("split-lsif", "--jobs", "1", dump, folders[0])
+    called("prepare", tool("prepare", "--lenient", index, dump))
+    called("split", split_words(dump, folders[0]))
     os.unlink(dump)
-    called("split-lsif", "--jobs", "1", index, folders[1])
+    called("split", split_words(index, folders[1]))
     names = os.listdir(folders[0])
     _, differ, missing = filecmp.cmpfiles(folders[0], folders[1], names, shallow=False)
     if differ or missing or len(os.listdir(folders[1])) != len(names):
@@ -104,13 +135,13 @@ def split_hostile(number: int, name: str, folder: str) -> None:
     maker = multiprocessing.Process(target=write, args=(path, make(size)))
     maker.start()
     maker.join()
-    call = ["--jobs", "1", path, os.path.join(folder, "code")]
-    done = called("split-lsif", *call)
+    parts = os.path.join(folder, "code")
+    done = called("split", split_words(path, parts))
     said = done.error.splitlines()
     if (done.status, len(said), refusal in said[-1]) != (2 if refusal else 0, 1, True):
         sys.exit(f"splitting: {name}: {said}")
     if any(text in said[-1] for text in LENIENT):
-        if called("split-lsif", "--lenient", *call).status != 0:
+        if called("split", split_words(path, parts, "--lenient")).status != 0:
             sys.exit(f"splitting: {name}: refused with --lenient too")
 
 
@@ -119,13 +150,21 @@ def main() -> None:
         description=__doc__, formatter_class=argparse.RawDescriptionHelpFormatter
     )
     parts = options.add_subparsers(required=True, dest="part")
-    index, hostile = (parts.add_parser(name) for name in ("index", "hostile"))
+    index, hostile, alone = (parts.add_parser(name) for name in ("index", "hostile", "alone"))
     index.add_argument("symbols", nargs="?", type=int, default=2000, help="2000 without it")
     counts = "documents of 400 occurrences; 20, 80 and 320"
     index.add_argument("documents", nargs="*", type=int, help=counts)
     shapes = "which of the shapes, from 1; all without it"
     hostile.add_argument("numbers", nargs="*", type=int, metavar="NUMBER", help=shapes)
+    alone.add_argument("--name", default="code", help="of the set; code")
+    alone.add_argument("--jobs", type=int, default=1, help="so many processes; 1")
+    alone.add_argument("--lenient", action="store_true", help="leave out what can't be had")
+    alone.add_argument("dump", metavar="DUMP")
+    alone.add_argument("folder", metavar="FOLDER")
     given = options.parse_args()
+    if given.part == "alone":
+        how = SplitOptions(given.name, is_lenient=given.lenient, jobs=given.jobs)
+        sys.exit(split_alone(given.dump, given.folder, how))
     if given.part == "index":
         for count in given.documents or [20, 80, 320]:
             with tempfile.TemporaryDirectory() as folder:

@@ -27,6 +27,7 @@ from contextlib import ExitStack
 from typing import Any, Callable
 
 from joined_dumps import Place, make_text, write_renamed
+from sets import children_seconds, processor_seconds, stage
 
 from codenav.asking.index import Index
 from codenav.client.fetch import fetch_from
@@ -37,7 +38,6 @@ from codenav.sets.publish.publish import Publish
 from codenav.sets.publish.store import Store
 from codenav.sets.split.split import SplitOptions, split
 from codenav.sets.surface.made import SurfaceFiles, made_surface
-from sets import children_seconds, processor_seconds, stage
 
 ASKED = 400
 SECONDS = 300

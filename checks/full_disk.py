@@ -33,7 +33,6 @@ from watched import (
     at,
     body_of,
     dump,
-    ended,
     said,
     short,
     started,
@@ -216,7 +215,7 @@ class Disk:
             if how == "kill":
                 self.server.kill()
             else:
-                ended(self.server)
+                self.server.end()
         self.server = None
         try:
             self.server = started(self.program, str(self.database))
@@ -285,7 +284,7 @@ def fills_up(program: str, place: pathlib.Path, told: Callable[[str, str], None]
         told("a filler is removed: the refused upload again", "200")
         told("what was accepted, at the end", disk.check(False))
         if disk.server:
-            ended(disk.server)
+            disk.server.end()
         sound(disk.database)
     finally:
         if disk.server:

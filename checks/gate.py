@@ -249,7 +249,7 @@ def main() -> int:
             "the cost of the whole over that of the proofs and tests of the crates that measure it; what"
             " ran alone; and the time by the clock on 2, 4 and 8 processors",
         ),
-        ("table", "the costs as a table of docs/DEVELOPING.md, in minutes"),
+        ("table", "the costs as a table of docs/inside/DEVELOPING.md, in minutes"),
     ):
         parts.add_parser(part, help=text).add_argument("log", metavar="LOG")
     given = options.parse_args()

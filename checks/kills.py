@@ -40,7 +40,6 @@ from watched import (
     at,
     body_of,
     dump,
-    ended,
     launched,
     said,
     short,
@@ -306,7 +305,7 @@ class Run:
             server = launched(self.program, self.database)
             if self.chosen.random() > 0.12 or self.counts["kills"] + 1 >= self.most:
                 begin = time.perf_counter()
-                server.listens()
+                server.must_listen()
                 self.times["start", 0].append(time.perf_counter() - begin)
                 return server
             killer = threading.Timer(
@@ -314,7 +313,7 @@ class Run:
             )
             killer.start()
             try:
-                server.listens()
+                server.must_listen()
                 killer.join()
                 self.counts["between"] += 1
             except NotStarted as fault:
@@ -488,7 +487,7 @@ def kills(program: str, folder: pathlib.Path, count: int, seed: int) -> None:
         try:
             equal = compare(run, server)
             size = sum(path.stat().st_size for path in folder.iterdir())
-            ended(server)
+            server.end()
         finally:
             server.kill()
         sound(folder / "index.db")

@@ -254,10 +254,10 @@ def no_more_files(program: Program) -> None:
     """A process that may not open a file for a connection, which ends without waiting for one; and
     one that may open one, but not a second handle of it."""
     server = program.start(1, before=("prlimit", "--nofile=4"))
-    expect("no file for a connection", server.end(5), ("", "codenav: cannot accept\n", 2))
+    expect("no file for a connection", server.ended(5), ("", "codenav: cannot accept\n", 2))
     server = program.start(1, before=("prlimit", "--nofile=5"))
     with server.connect():
-        expect("no second handle", server.end(5), ("", "", 0))
+        expect("no second handle", server.ended(5), ("", "", 0))
 
 
 def refused_memory(program: Program) -> None:
@@ -277,10 +277,10 @@ def refused_memory(program: Program) -> None:
         )
     server = program.start(1, refused=0)
     server.connect().close()
-    _, count, _ = server.end(5)
+    _, count, _ = server.ended(5)
     server = program.start(1, refused=int(count))
     server.connect().close()
-    expect("serve with memory refused", server.end(5), ("", MEMORY, 2))
+    expect("serve with memory refused", server.ended(5), ("", MEMORY, 2))
 
 
 def connections(program: Program) -> None:
@@ -293,7 +293,7 @@ def connections(program: Program) -> None:
         peer.sendall(b"GET /projects")
         peer.setsockopt(socket.SOL_SOCKET, socket.SO_LINGER, struct.pack("ii", 1, 0))
     expect("the last request", sent(server, PROJECTS), NO_PROJECTS)
-    expect("the end of serve", server.end(5), ("", "", 0))
+    expect("the end of serve", server.ended(5), ("", "", 0))
 
 
 # ---- where it listens
@@ -326,7 +326,7 @@ def other_addresses(program: Program) -> None:
         if peer.connect_ex(("::1", server.port)) == 0:
             raise Wrong("a connection to ::1 was accepted")
     expect("its own address", sent(server, PROJECTS), NO_PROJECTS)
-    expect("the end of serve", server.end(5), ("", "", 0))
+    expect("the end of serve", server.ended(5), ("", "", 0))
 
 
 # ---- databases in files
@@ -411,7 +411,7 @@ def closed_logs(program: Program) -> None:
         server = program.start(1, database=str(path))
         removal = b"DELETE /projects/app?key=d1 HTTP/1.1\r\n\r\n"
         expect("a removal", sent(server, removal), reply("200 OK", '{"removed":true}'))
-        expect("the end of serve", server.end(5), ("", "", 0))
+        expect("the end of serve", server.ended(5), ("", "", 0))
         expect("the log after serve", has_pages_in_log(path), False)
         expect("what it has then", statements(path, "SELECT project FROM slot"), [])
 
@@ -644,7 +644,7 @@ def slow_client(program: Program, client: Client, least: int, most: int, faults:
         expect(f"{what}: the next one", sent(server, PROJECTS, most + 10), projects)
         took = time.monotonic() - start
         print(f"{what}: {took:.2f} s", flush=True)
-        expect(f"{what}: the end of serve", server.end(10), ("", "", 0))
+        expect(f"{what}: the end of serve", server.ended(10), ("", "", 0))
         if not least - 0.01 <= took <= most + late(most):
             raise Wrong(f"{what}: {took:.2f} seconds and not {least} to {most}")
     except (Wrong, OSError) as fault:

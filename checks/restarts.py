@@ -21,7 +21,7 @@ from typing import Iterator
 
 from load import Place, Seen, load
 
-from codenav.program import free_port
+from codenav.program import Program, Running, free_port
 from tests.fronts import KINDS, fronted, lacking
 
 PAUSE = 0.2
@@ -33,29 +33,30 @@ class Restarted:
     """A server that's started again whenever it has ended, as an init does."""
 
     def __init__(self, program: str, database: str, requests: int) -> None:
+        self.program, self.database, self.requests = Program(program), database, requests
         self.port, self.ends, self.goes_on = free_port(), 0, True
-        words = [program, "serve", database, "--port", str(self.port), "--requests", str(requests)]
-        self.words, self.process = words, self.started(words)
+        self.server = self.started()
         self.thread = threading.Thread(target=self.watch)
         self.thread.start()
 
-    def started(self, words: list[str]) -> "subprocess.Popen[bytes]":
-        return subprocess.Popen(words, stdin=subprocess.DEVNULL, stdout=subprocess.DEVNULL)
+    def started(self) -> Running:
+        return self.program.launch(self.database, self.port, self.requests)
 
     def watch(self) -> None:
         """Starts it again, until it isn't wanted any more."""
         while True:
-            self.process.wait()
+            self.server.process.wait()
+            self.server.kill()
             if not self.goes_on:
                 return
             self.ends += 1
             time.sleep(PAUSE)
-            self.process = self.started(self.words)
+            self.server = self.started()
 
     def end(self) -> None:
         self.goes_on = False
         while self.thread.is_alive():
-            self.process.kill()
+            self.server.process.kill()
             self.thread.join(0.1)
 
 
@@ -72,7 +73,7 @@ def end_in_turn(server: Restarted, signals: list[str], count: int) -> None:
     """Ends the server so often, by one signal after the other, at moments by chance."""
     for number in range(count):
         time.sleep(random.uniform(GAP / 2, 3 * GAP / 2))
-        subprocess.run(["kill", f"-{signals[number % len(signals)]}", str(server.process.pid)])
+        subprocess.run(["kill", f"-{signals[number % len(signals)]}", str(server.server.pid)])
 
 
 def waited_until(server: Restarted, count: int) -> None:

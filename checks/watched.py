@@ -2,11 +2,9 @@
 are."""
 
 import json
-import select
 import socket
 import subprocess
 import sys
-from dataclasses import dataclass
 from pathlib import Path
 from typing import Optional
 from urllib.parse import urlencode
@@ -14,7 +12,7 @@ from urllib.parse import urlencode
 TOP = Path(__file__).resolve().parent.parent
 sys.path.insert(0, str(TOP / "tools"))
 
-from codenav.program import free_port
+from codenav.program import Running, free_port
 from tests.servers import command
 
 SECONDS = 60
@@ -23,7 +21,7 @@ APART = 8
 
 
 def tool(word: str, *words: str) -> list[str]:
-    """The words of a call of a tool."""
+    """What calls a word of `codenav` that is a tool's."""
     return [*command(word), *words]
 
 
@@ -51,20 +49,17 @@ class NotStarted(Exception):
 # ---- servers
 
 
-@dataclass
-class Server:
-    process: "subprocess.Popen[bytes]"
-    port: int
+class Server(Running):
+    """A server of the program, every step of which has a time limit."""
 
-    def listens(self, seconds: float = SECONDS) -> None:
-        """Waits until it says that it listens."""
-        assert self.process.stdout is not None and self.process.stderr is not None
-        if not select.select([self.process.stdout], [], [], seconds)[0]:
-            self.kill()
-            raise Wrong(f"serve neither listens nor ends within {seconds} seconds")
-        line = self.process.stdout.readline().decode(errors="replace")
-        if line != f"listening on 127.0.0.1:{self.port}\n":
-            _, error = self.process.communicate(timeout=seconds)
+    def must_listen(self, seconds: float = SECONDS) -> None:
+        """Waits until it says that it listens. Raises NotStarted where it ends."""
+        if not self.listens(seconds):
+            try:
+                _, error = self.process.communicate(timeout=1)
+            except subprocess.TimeoutExpired:
+                self.kill()
+                raise Wrong(f"serve neither listens nor ends within {seconds} seconds") from None
             raise NotStarted(error.decode(errors="replace"), self.process.returncode)
 
     def connect(self, room: int = 0, seconds: float = SECONDS) -> socket.socket:
@@ -98,14 +93,19 @@ class Server:
             raise NoReply(connected, sent)
         return reply
 
-    def end(self, seconds: float = SECONDS) -> tuple[str, str, int]:
-        """What else it prints, and its status, where it ends within so many seconds."""
+    def ended(self, seconds: float = SECONDS) -> tuple[str, str, int]:
+        """What else it prints, and its status, where it ends by itself within so many seconds."""
         try:
             output, error = self.process.communicate(timeout=seconds)
         except subprocess.TimeoutExpired:
             self.kill()
             raise Wrong(f"serve goes on after {seconds:.1f} seconds") from None
         return output.decode(), error.decode(), self.process.returncode
+
+    def end(self) -> None:
+        """Ends it by SIGTERM, and waits for its end."""
+        self.process.terminate()
+        self.ended()
 
     def kill(self) -> None:
         """Ends it by SIGKILL, where it still runs."""
@@ -126,7 +126,7 @@ def launched(
     words = [*before, program, "serve", database, "--port", str(port), "--requests", str(requests)]
     pipe = subprocess.PIPE
     process = subprocess.Popen(words, stdin=subprocess.DEVNULL, stdout=pipe, stderr=pipe, env=env)
-    return Server(process, port)
+    return Server(process, database, port)
 
 
 def started(
@@ -139,14 +139,8 @@ def started(
 ) -> Server:
     """A server over a database that listens."""
     server = launched(program, database, before, requests, env)
-    server.listens(seconds)
+    server.must_listen(seconds)
     return server
-
-
-def ended(server: Server) -> None:
-    """Ends a server by SIGTERM, and waits for its end."""
-    server.process.terminate()
-    server.end()
 
 
 # ---- requests and replies

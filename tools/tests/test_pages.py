@@ -38,7 +38,7 @@ FILE = re.compile(
 )
 # Files of other programs, of the toolchain, or that a reader makes.
 ELSEWHERE = {
-    *("crates/codenav/out/codenav", "display.rs", "error.rs"),
+    *("display.rs", "error.rs"),
     *("init.lua", "settings.json", "languages.toml", ".codenav.toml"),
 }
 

@@ -1,5 +1,5 @@
-"""The list of the definitions that the promise of `replay` rests on, in docs/inside/DEFINITIONS.md, beside
-what checks/promise.py finds in the definitions themselves."""
+"""The list of the definitions that the promise of `replay` rests on, in docs/inside/DEFINITIONS.md,
+beside what checks/promise.py finds in the definitions themselves."""
 
 import subprocess
 import sys
