@@ -3,10 +3,10 @@ published as sets over several servers, each at the home that the front's hash g
 surface to all other servers, or to those alone that have a set with a package in common.
 
 How many surfaces and elements are sent follows from the packages: it's said for some numbers of
-servers, each the mean of so many addresses, since the hash is of these. Then it's tried: a sample of
-places in each dump is asked for its definition, references and hover, of one server with all, and of
-several without surfaces, with those that join and with all. Answers 0 where the latter two answer
-as the one server.
+servers, each the mean of so many addresses, since the hash is of these. Then it's tried: a sample
+of places in each dump is asked for its definition, references and hover, of one server with all,
+and of several without surfaces, with those that join and with all. Answers 0 where the latter two
+answer as the one server.
 """
 
 import argparse

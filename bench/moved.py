@@ -1,4 +1,5 @@
-"""Measures the map between an old text and a new one (tools/codenav/texts/moved), each part by itself:
+"""Measures the map between an old text and a new one (tools/codenav/texts/moved), each part by
+itself:
 
   made [SEEDS]     made edits with known truth: 26 kinds over files of Debian's packages; words that
                    lead to a wrong place, in a million

@@ -3,8 +3,8 @@ counts the answers that are wrong and the questions that fail, by both fronts, a
 server is filled again.
 
 Each question is one that bench/proxy.py asks. What's right is the answer of one server that has
-everything. Half of the clients know nothing before each question, as `ask` does; the others keep the
-manifests that they read, as an editor does. It needs Debian's nginx, libnginx-mod-http-lua and
+everything. Half of the clients know nothing before each question, as `ask` does; the others keep
+the manifests that they read, as an editor does. It needs Debian's nginx, libnginx-mod-http-lua and
 haproxy.
 """
 
