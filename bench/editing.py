@@ -10,9 +10,9 @@ indexed:
             brackets that of the bridge on a processor, which other work on the machine changes
             little
 
-usage: /usr/bin/python3 bench/editing.py PART PROGRAM      (the built program)
 """
 
+import argparse
 import os
 import random
 import re
@@ -25,13 +25,12 @@ import time
 from collections import Counter
 from typing import Any, Iterator
 
-TOP = os.path.dirname(os.path.dirname(os.path.abspath(__file__)))
-sys.path.insert(0, os.path.join(TOP, "tools"))
+from servers import TOP
+from watched import tool
 
 from codenav.program import Program
 from codenav.texts.places import uri_of
 from tests.repository import git_in
-from tests.servers import command
 from tests.test_explain import META, edge, span, vertex
 from tests.test_lsp import Editor
 
@@ -56,10 +55,9 @@ def write(path: str, text: str) -> None:
         file.write(text)
 
 
-def tool(name: str, *words: str) -> None:
+def call(word: str, *words: str) -> None:
     """Calls a tool, which has to succeed."""
-    command = [*command(name), *words]
-    subprocess.run(command, check=True, capture_output=True)
+    subprocess.run(tool(word, *words), check=True, capture_output=True)
 
 
 def opened(folder: str, *words: str) -> Editor:
@@ -120,8 +118,8 @@ def indexed(url: str, folder: str) -> tuple[str, list[str]]:
         dump = os.path.join(folder, ".git", "dump.lsif")
         if not os.path.isdir(os.path.dirname(dump)):
             git_in(folder, "init", "-q")
-        tool("prepare-lsif", os.path.join(TOP, "demo", f"{name}.raw.lsif"), dump)
-        tool("upload-lsif", url, project, dump)
+        call("prepare", os.path.join(TOP, "demo", f"{name}.raw.lsif"), dump)
+        call("upload", url, project, dump)
     git_in(folder, "add", "-A")
     git_in(folder, "commit", "-qm", "indexed")
     return git_in(folder, "rev-parse", "HEAD"), ["--map", f"file:///src/tr={folder}"]
@@ -318,7 +316,7 @@ def print_times(program: str) -> int:
             git_in(folder, "add", "a.rs")
             git_in(folder, "commit", "-qm", "indexed")
             write(dump, dump_of(uri_of(path, []), length))
-            tool("upload-lsif", url, "app", dump)
+            call("upload", url, "app", dump)
             lines = text.split("\n")
             changed = "\n".join(
                 line if at % 50 else f"// another line {at}\n{line}"
@@ -334,6 +332,10 @@ def print_times(program: str) -> int:
 PARTS = {"answers": print_answers, "times": print_times}
 
 if __name__ == "__main__":
-    if len(sys.argv) != 3 or sys.argv[1] not in PARTS:
-        sys.exit(__doc__)
-    sys.exit(PARTS[sys.argv[1]](os.path.abspath(sys.argv[2])))
+    options = argparse.ArgumentParser(
+        description=__doc__, formatter_class=argparse.RawDescriptionHelpFormatter
+    )
+    options.add_argument("part", choices=PARTS)
+    options.add_argument("program", help="the built one")
+    given = options.parse_args()
+    sys.exit(PARTS[given.part](os.path.abspath(given.program)))

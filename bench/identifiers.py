@@ -1,4 +1,3 @@
-#!/usr/bin/env python3
 """Asks a server for the definition at each identifier of crates, of dumps in two forms: how many
 are answered, how many by nothing but ranges over whole files, and how many not at all.
 
@@ -8,20 +7,16 @@ usage: bench/identifiers.py PROGRAM CRATE=DUMP[,DUMP] ..
 import os
 import sys
 from collections import Counter
-
-sys.path.insert(
-    0, os.path.join(os.path.dirname(os.path.dirname(os.path.abspath(__file__))), "tools")
-)
-
 from importlib.machinery import SourceFileLoader
 from importlib.util import module_from_spec, spec_from_loader
+
+from servers import TOP
 
 from codenav.cli.upload import UPLOAD
 from codenav.faults import NoReply
 from codenav.program import Program
 from codenav.texts.places import lines_of
 
-TOP = os.path.dirname(os.path.dirname(os.path.abspath(__file__)))
 LOADER = SourceFileLoader("scip_and_lsif", os.path.join(TOP, "tools", "tests", "scip_and_lsif"))
 SPEC = spec_from_loader("scip_and_lsif", LOADER)
 assert SPEC is not None

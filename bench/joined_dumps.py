@@ -1,6 +1,5 @@
-#!/usr/bin/env python3
 """Makes large dumps that are joined with each other: each is made of the same smaller ones as
-`large_dump.py` makes one, under names of its own, and a share of its references leads to symbols of
+`copies.py joined` makes one, under names of its own, and a share of its references leads to symbols of
 the next dump, the last one's to the first. There it imports a key that the other one exports, for
 one result alone: of others a set hides the key.
 
@@ -11,11 +10,10 @@ of it with other numbers.
 import json
 import random
 import re
-import tempfile
 from collections import Counter
 from typing import IO, Iterator, NamedTuple
 
-from large_dump import Element, Smaller, Symbol, as_text, away_of
+from copies import Element, Smaller, Symbol, as_text, away_of, with_later
 
 SHARE = 0.05
 NAME = re.compile(r"\bs([0-9]+)_c(?=[0-9]{3})")
@@ -170,14 +168,12 @@ def put_copies(
 
 def make_text(path: str, copies: int, dumps: list[str]) -> Made:
     """Writes the text of which all dumps are copies."""
-    led = 0
-    with open(path, "w", encoding="utf-8") as out, tempfile.TemporaryFile(
-        "w+", encoding="utf-8"
-    ) as later:
+
+    def put(out: IO[str], later: IO[str]) -> tuple[int, tuple[int, list[Place]]]:
         last, count, places = put_copies(out, later, copies, dumps)
-        later.seek(0)
-        for led, line in enumerate(later, 1):
-            out.write(f'{{"id":{last + led},{line[1:]}')
+        return last, (count, places)
+
+    led, (count, places) = with_later(path, put)
     return Made(count + led, places[:MOST_PLACES])
 
 

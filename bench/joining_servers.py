@@ -1,4 +1,3 @@
-#!/usr/bin/env python3
 """Counts what `publish --servers-that-join` saves: dumps that depend on each other in part are
 published as sets over several servers, each at the home that the front's hash gives, and its
 surface to all other servers, or to those alone that have a set with a package in common.
@@ -19,8 +18,7 @@ import tempfile
 from contextlib import ExitStack
 from typing import Any, NamedTuple
 
-TOP = os.path.dirname(os.path.dirname(os.path.abspath(__file__)))
-sys.path.insert(0, os.path.join(TOP, "tools"))
+from sets import KINDS, points_of
 
 from codenav.asking.index import Index
 from codenav.client.fetch import Fetch, fetch_from
@@ -32,7 +30,6 @@ from codenav.sets.publish.store import Store
 from codenav.sets.ring import home_of
 from codenav.sets.split.split import SplitOptions, split
 from codenav.sets.surface.made import SurfaceFiles, made_surface
-from sets import KINDS, points_of
 
 NUMBERS = 3, 5, 10, 30, 100
 PLACEMENTS = 100

@@ -26,8 +26,7 @@ import time
 from collections import Counter
 from typing import Callable, Iterator
 
-TOP = os.path.dirname(os.path.dirname(os.path.abspath(__file__)))
-sys.path.insert(0, os.path.join(TOP, "tools"))
+from servers import TOP
 
 from codenav.texts.moved.sides import lines_of_text
 from codenav.texts.moved.text_map import TextMap

@@ -1,16 +1,26 @@
-"""Measures what a start over a file costs: see bench/opening.sh."""
+"""Measures what a start over a file costs, which reads and checks all of it.
 
-import os
+`codenav replay DB FILE` with an empty FILE, over a new file, a small database and databases with 1,
+2 and 4 dumps; time of the processor and of the clock, the median of five. Beside it Python's
+`sqlite3` opens the same file and runs `PRAGMA integrity_check` and, apart, `SELECT count(*) FROM
+range_row`; Python's own start isn't counted, the program's is. Each run has a copy of the file with
+its log, as the program left both. The ratios are of the processor's time.
+"""
+
+import argparse
 import pathlib
 import shutil
 import statistics
 import subprocess
 import sys
-import time
+import tempfile
 from dataclasses import dataclass
 from typing import Optional
 
-TOP = pathlib.Path(__file__).resolve().parent.parent
+import inputs
+from servers import TOP, spent
+from watched import request
+
 DUMPS = [1, 2, 4]
 TURNS = 5
 SQLITE = """
@@ -54,21 +64,10 @@ def copied(database: Optional[pathlib.Path], copy: pathlib.Path) -> None:
 
 def replayed(program: str, database: pathlib.Path, requests: pathlib.Path, replies: int) -> Taken:
     """What a call of `replay` takes, which answers so many requests, each by 200."""
-    begin = time.perf_counter()
-    process = subprocess.Popen(
-        [program, "replay", str(database), str(requests)],
-        stdin=subprocess.DEVNULL,
-        stdout=subprocess.PIPE,
-    )
-    assert process.stdout is not None
-    output = process.stdout.read()
-    _, status, used = os.wait4(process.pid, 0)
-    passed = time.perf_counter() - begin
-    process.returncode = os.waitstatus_to_exitcode(status)
-    process.stdout.close()
-    if process.returncode != 0 or output.count(b"HTTP/1.1 200 OK") != replies:
-        raise Failed(f"replay ended with status {process.returncode}: {output[-200:]!r}")
-    return Taken(used.ru_utime + used.ru_stime, passed)
+    done = spent(program, "replay", str(database), str(requests))
+    if done.status != 0 or done.output.count(b"HTTP/1.1 200 OK") != replies:
+        raise Failed(f"replay ended with status {done.status}: {done.output[-200:]!r}")
+    return Taken(done.used, done.passed)
 
 
 def asked(database: pathlib.Path, statement: str) -> Taken:
@@ -95,15 +94,12 @@ def median(found: list[Taken]) -> Taken:
     )
 
 
-def put(program: str, database: pathlib.Path, dump: pathlib.Path, count: int) -> pathlib.Path:
+def put(program: str, database: pathlib.Path, dump: bytes, count: int) -> pathlib.Path:
     """A database into which so many projects' dumps were put."""
-    body, requests = dump.read_bytes(), database.with_suffix(".http")
+    requests = database.with_suffix(".http")
     with open(requests, "wb") as file:
         for number in range(count):
-            file.write(
-                f"PUT /projects/project_{number}/lsif?key=k HTTP/1.1\r\nHost: localhost\r\nContent-Length: {len(body)}\r\n\r\n".encode()
-                + body
-            )
+            file.write(request("PUT", f"/projects/project_{number}/lsif?key=k", dump))
     replayed(program, database, requests, count)
     requests.unlink()
     return database
@@ -135,30 +131,38 @@ def measure(program: str, what: str, database: Optional[pathlib.Path], folder: p
     return f"{what}, {size / 1e6:.1f} MB: {start.used * 1e3:.0f} ms of the processor, {start.used / check.used:.1f} times SQLite's integrity_check"
 
 
-def main() -> int:
-    """Prints the table, over the dump of a folder and by a program."""
-    folder, program, elements = pathlib.Path(sys.argv[1]), sys.argv[2], sys.argv[3]
+def measure_all(program: str, elements: int, folder: pathlib.Path) -> str:
+    """Prints the rows; answers what is said of the last."""
     (folder / "empty.http").touch()
+    measure(program, "a new file", None, folder)
+    small = folder / "small.db"
+    replayed(program, small, TOP / "demo" / "first.http", 3)
+    measure(program, "demo/first.http", small, folder)
+    last, dump = "", inputs.dump(elements)
+    for count in DUMPS:
+        database = put(program, folder / f"dumps_{count}.db", dump, count)
+        what = f"{count} dump{'s' * (count > 1)} of {elements} elements"
+        last = measure(program, what, database, folder)
+    return last
+
+
+def main() -> int:
+    """Prints the table."""
+    options = argparse.ArgumentParser(
+        description=__doc__, formatter_class=argparse.RawDescriptionHelpFormatter
+    )
+    options.add_argument("program", help="the built one, the file itself")
+    count = "of a dump; 80000"
+    options.add_argument("elements", nargs="?", type=int, default=80_000, help=count)
+    given = options.parse_args()
     print(
         "| Database | MB | Start, ms: processor | wall | `integrity_check`, ms: processor | wall | Ratio | `count(*)`, ms: processor | wall | Ratio |"
     )
     print("|-|-|-|-|-|-|-|-|-|-|")
     try:
-        measure(program, "a new file", None, folder)
-        small = folder / "small.db"
-        subprocess.run(
-            [program, "replay", str(small), str(TOP / "demo" / "first.http")],
-            stdout=subprocess.DEVNULL,
-            check=True,
-        )
-        measure(program, "demo/first.http", small, folder)
-        last = ""
-        for count in DUMPS:
-            database = put(program, folder / f"dumps_{count}.db", folder / "great.lsif", count)
-            last = measure(
-                program, f"{count} dump{'s' * (count > 1)} of {elements} elements", database, folder
-            )
-    except (Failed, OSError, subprocess.CalledProcessError) as fault:
+        with tempfile.TemporaryDirectory() as folder:
+            last = measure_all(given.program, given.elements, pathlib.Path(folder))
+    except (Failed, OSError) as fault:
         print(f"opening: {fault}", file=sys.stderr)
         return 1
     print(f"opening: {last}")

@@ -1,8 +1,20 @@
-"""Compares projects over three servers behind the front with the same projects on one server: see
-bench/proxy.sh."""
+"""Shows projects over several servers, beside the same projects on one server.
 
+Three `codenav serve` are behind the front of packaging/front/lua, which picks the server by a hash
+of the project's name in the path. Thirty projects, each of which exports a function and imports two
+others', are put through the front and to one server besides. Each definition, reference and hover
+is asked of both. The answers must be equal where no join leads to a project on another server;
+elsewhere the front's must be the other's without the places of such projects, which are counted.
+Then what a request costs: the least time of so many, by the one server, through the front, and of
+nginx alone with a fixed reply. Then all thirty are published as sets with their surfaces, and each
+query has to be answered as by the one server; so it is on three servers behind nginx and HAProxy.
+It needs Debian's nginx, libnginx-mod-http-lua and haproxy.
+"""
+
+import argparse
 import json
 import os
+import subprocess
 import sys
 import tempfile
 from contextlib import ExitStack, redirect_stderr, redirect_stdout
@@ -11,6 +23,7 @@ from typing import Any, Callable, Optional
 from urllib.parse import parse_qsl, urlencode
 
 from servers import ask, least_times, nginx
+from watched import Lines
 
 from codenav.asking.index import Index
 from codenav.cli.publish import PUBLISH
@@ -41,61 +54,24 @@ def by_front(front: Front) -> Asked:
     return asked
 
 
-def dump(number: int) -> str:
+def dump(number: int) -> bytes:
     """The dump of a project: it exports a function of its own name, and imports those of two
-    others. Ids are numbers of lines."""
-    lines: list[str] = []
-
-    def element(kind: str, label: str, /, **members: object) -> int:
-        lines.append(
-            json.dumps(
-                {"id": len(lines) + 1, "type": kind, "label": label, **members},
-                separators=(",", ":"),
-            )
-        )
-        return len(lines)
-
-    def span(line: int) -> int:
-        return element(
-            "vertex",
-            "range",
-            start={"line": line, "character": 0},
-            end={"line": line, "character": 9},
-        )
-
-    def moniker(vertex: int, kind: str, name: str) -> None:
-        own = element("vertex", "moniker", kind=kind, scheme="bench", identifier=f"{name}::run")
-        package = element("vertex", "packageInformation", name=name, manager="bench", version="1")
-        element("edge", "packageInformation", outV=own, inV=package)
-        element("edge", "moniker", outV=vertex, inV=own)
-
-    element("vertex", "metaData", version="0.6.0")
-    document = element("vertex", "document", uri=f"file:///{PROJECTS[number]}/main.rs")
-    own = span(0)
-    moniker(own, "export", PROJECTS[number])
-    result = element("vertex", "definitionResult")
-    element("edge", "textDocument/definition", outV=own, inV=result)
-    element("edge", "item", outV=result, inVs=[own], shard=document)
-    result = element("vertex", "hoverResult", result={"contents": f"run of {PROJECTS[number]}"})
-    element("edge", "textDocument/hover", outV=own, inV=result)
-    ranges = [own]
-    for line, step in (1, 7), (2, 13):
-        used = span(line)
-        moniker(used, "import", PROJECTS[(number + step) % len(PROJECTS)])
-        ranges.append(used)
+    others."""
+    own, project = Lines("shard"), PROJECTS[number]
+    own.vertex("metaData", ',"version":"0.6.0"')
+    file = own.vertex("document", f',"uri":"file:///{project}/main.rs"')
+    ranges = [own.range(line, 0, line, 9) for line in range(3)]
+    own.moniker(ranges[0], "export", project, f"{project}::run")
+    own.item(own.result("definition", ranges[0]), ranges[:1], file)
+    own.result("hover", ranges[0], f',"result":{{"contents":"run of {project}"}}')
+    for used, step in zip(ranges[1:], (7, 13)):
+        other = PROJECTS[(number + step) % len(PROJECTS)]
+        own.moniker(used, "import", other, f"{other}::run")
     for one in ranges:
-        result = element("vertex", "referenceResult")
-        element("edge", "textDocument/references", outV=one, inV=result)
-        element(
-            "edge",
-            "item",
-            outV=result,
-            inVs=[one],
-            shard=document,
-            property="definitions" if one == own else "references",
-        )
-    element("edge", "contains", outV=document, inVs=ranges)
-    return "".join(f"{line}\n" for line in lines)
+        prop = "definitions" if one == ranges[0] else "references"
+        own.item(own.result("references", one), [one], file, prop)
+    own.contains(file, ranges)
+    return own.text()
 
 
 def queries() -> list[tuple[str, str, str]]:
@@ -166,9 +142,9 @@ def put_all(one: Asked, proxy: Optional[Asked]) -> None:
     """Puts each project's dump and tags to one server, and by a proxy where there is one."""
     for number, project in enumerate(PROJECTS):
         tags = f'run\tmain.rs\t/^fn run() {{ {project} }}$/;"\tf\n'
-        for part, body in ("lsif", dump(number)), ("tags", tags):
+        for part, body in ("lsif", dump(number)), ("tags", tags.encode()):
             replies = [
-                asked("PUT", f"/projects/{project}/{part}?key=k_{part}", body.encode())
+                asked("PUT", f"/projects/{project}/{part}?key=k_{part}", body)
                 for asked in (one, proxy or one)
             ]
             if replies[0] != replies[1] or replies[0][0] != 200:
@@ -196,7 +172,7 @@ def publish_all(front: Front, servers: list[str], kept: Optional[str] = None) ->
     os.environ["CODENAV_USER"] = USER
     for number, project in enumerate(PROJECTS):
         path = f"{folder}/{project}.lsif"
-        with open(path, "w", encoding="utf-8") as out:
+        with open(path, "wb") as out:
             out.write(dump(number))
         words = ["--servers", ",".join(servers), "--no-tags", "--dump", path]
         words += ["--keep", f"{kept}/{project}"] if kept else []
@@ -281,14 +257,19 @@ def run(program: str, folder: str) -> None:
 
 def main() -> int:
     """Answers 0 where each answer was as it should be."""
+    options = argparse.ArgumentParser(
+        description=__doc__, formatter_class=argparse.RawDescriptionHelpFormatter
+    )
+    options.add_argument("program", help="the built one")
+    program = options.parse_args().program
+    subprocess.run([program, "--version"], check=True)
     try:
-        if why := lacking("lua"):
-            raise Failed(why)
-        if why := lacking("haproxy"):
-            raise Failed(why)
+        for kind in "lua", "haproxy":
+            if why := lacking(kind):
+                raise Failed(why)
         for part in run, by_haproxy:
             with tempfile.TemporaryDirectory() as folder:
-                part(sys.argv[1], folder)
+                part(program, folder)
     except (Failed, OSError) as fault:
         print(f"proxy: {fault}", file=sys.stderr)
         return 1

@@ -1,5 +1,16 @@
-"""Measures what one server holds: see bench/scale.sh."""
+"""Measures what one `codenav serve` holds, over loopback, in one run, for an index in memory and for
+one in a file.
 
+What queries cost, one after the other, beside an nginx with a fixed reply; what puts cost that make
+a project, and those in the place of a dump, beside `codenav check-lsif` of the same dump; and what
+dumps and tags take in the memory of the program, and in the file with its log, a line, and in
+multiples of the bodies. In memory one project has tags, in the file eight. Then how long a program
+takes from its start until it listens: over memory, a new file, an empty one and a copy of the one
+that was filled, of which it reads and checks all; beside SQLite's `integrity_check` and
+`foreign_key_check` of the same. It needs Debian's nginx.
+"""
+
+import argparse
 import itertools
 import math
 import pathlib
@@ -12,6 +23,7 @@ import time
 from typing import Callable
 from urllib.parse import urlencode
 
+import inputs
 from proxy import PROJECTS as NAMES
 from proxy import dump
 from servers import TOP, ask, least_times, nginx, resident_bytes
@@ -208,7 +220,7 @@ def measure(program: str, folder: pathlib.Path) -> None:
         }
         for where, port in ports.items():
             put(port, "/projects/small/lsif", small.read_bytes())
-            put(port, "/projects/joined/lsif", dump(0).encode())
+            put(port, "/projects/joined/lsif", dump(0))
             measure_growth(where, sizes[where], port, "lsif", great.read_bytes(), PROJECTS)
             measure_growth(where, sizes[where], port, "tags", tags.read_bytes(), TAGGED[where])
         print(
@@ -229,9 +241,22 @@ def measure(program: str, folder: pathlib.Path) -> None:
 
 
 def main() -> int:
-    """Prints the measurements, over the files of a folder and by a program."""
+    """Prints the measurements."""
+    options = argparse.ArgumentParser(
+        description=__doc__, formatter_class=argparse.RawDescriptionHelpFormatter
+    )
+    options.add_argument("program", help="the built one")
+    count = "of a dump, and tags of a tags file; 80000"
+    options.add_argument("elements", nargs="?", type=int, default=80_000, help=count)
+    given = options.parse_args()
+    subprocess.run([given.program, "--version"], check=True)
     try:
-        measure(sys.argv[2], pathlib.Path(sys.argv[1]))
+        with tempfile.TemporaryDirectory() as name:
+            folder = pathlib.Path(name)
+            (folder / "great.lsif").write_bytes(inputs.dump(given.elements))
+            (folder / "middle.lsif").write_bytes(inputs.dump(given.elements // 8))
+            (folder / "great.tags").write_bytes(inputs.tags(given.elements))
+            measure(given.program, folder)
     except (Failed, OSError, sqlite3.Error) as fault:
         print(f"scale: {fault}", file=sys.stderr)
         return 1

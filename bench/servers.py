@@ -1,5 +1,5 @@
-"""What the scripts that measure servers share: requests over loopback, an nginx, and what is said
-of processes."""
+"""What the scripts that measure share: the path of the tools, requests over loopback, an nginx, and
+what processes take."""
 
 import http.client
 import json
@@ -7,12 +7,13 @@ import os
 import pathlib
 import subprocess
 import sys
+import tempfile
 import time
 from contextlib import contextmanager
-from typing import Any, Callable, Iterator, Optional
+from typing import IO, Any, Callable, Iterator, NamedTuple, Optional
 
 TOP = pathlib.Path(__file__).resolve().parent.parent
-sys.path.insert(0, str(TOP / "tools"))
+sys.path[:0] = [str(TOP / "tools"), str(TOP / "checks")]
 WAIT = 600
 
 CONFIG = """
@@ -99,3 +100,37 @@ def resident_bytes(process: int) -> int:
     """The memory that a process holds."""
     with open(f"/proc/{process}/statm", encoding="ascii") as file:
         return int(file.read().split()[1]) * os.sysconf("SC_PAGE_SIZE")
+
+
+class Spent(NamedTuple):
+    """What a program printed, its status, and the seconds that it took, of the clock and of a
+    processor."""
+
+    output: bytes
+    error: str
+    status: int
+    passed: float
+    used: float
+
+
+def spent(*words: str, output: Optional[IO[bytes]] = None) -> Spent:
+    """Runs a program, whose standard output goes to a file where one is given."""
+    with tempfile.TemporaryFile() as own, tempfile.TemporaryFile() as error:
+        out, begin = output or own, time.perf_counter()
+        process = subprocess.Popen(words, stdin=subprocess.DEVNULL, stdout=out, stderr=error)
+        _, status, usage = os.wait4(process.pid, 0)
+        passed = time.perf_counter() - begin
+        process.returncode = os.waitstatus_to_exitcode(status)
+        own.seek(0)
+        error.seek(0)
+        said = error.read().decode(errors="replace")
+        return Spent(own.read(), said, process.returncode, passed, usage.ru_utime + usage.ru_stime)
+
+
+def with_memory(*words: str, output: Optional[IO[bytes]] = None) -> tuple[Spent, int]:
+    """The same, and the most memory that the program held, in bytes. What the system says of a
+    child counts the memory of this process too, but not that of a child's child."""
+    with tempfile.NamedTemporaryFile("r") as said:
+        time_words = "/usr/bin/time", "--format=%M", "--quiet", f"--output={said.name}"
+        done = spent(*time_words, *words, output=output)
+        return done, int(said.read()) << 10

@@ -1,4 +1,3 @@
-#!/usr/bin/env python3
 """Measures a set: splits a large dump and a small one, publishes both, asks both in turns, starts
 the server again, then changes one document of the large one, splits and publishes again. Prints
 what each stage took: wall clock, processor time of the tool and of the server, and the most memory
@@ -8,11 +7,9 @@ Where it asks is chosen by chance among the ranges of the parts, of which one at
 memory. The document that's changed is that which most documents lead to among those that were
 asked for definitions.
 
-usage: bench/sets.py PROGRAM LARGE SMALL [ASKED [FOLDER]]
-       (both dumps are prepared; bench/large_dump.py makes a large one. ASKED questions of each
-       kind, 300 without it. FOLDER keeps the splits, and a later run takes those that it has.)
 """
 
+import argparse
 import json
 import os
 import random
@@ -27,8 +24,9 @@ from contextlib import contextmanager
 from dataclasses import dataclass, field
 from typing import Any, Iterator
 
-TOP = os.path.dirname(os.path.dirname(os.path.abspath(__file__)))
-sys.path.insert(0, os.path.join(TOP, "tools"))
+import servers  # noqa: F401  (the path of the tools)
+from splitting import split_words
+from watched import tool
 
 from codenav.asking.index import Index
 from codenav.client import http as client
@@ -36,7 +34,6 @@ from codenav.client.http import found_in, request
 from codenav.program import Program, Running, free_port
 from codenav.sets.files import MANIFEST, read_documents, read_head
 from codenav.sets.manifest import Head
-from tests.servers import command
 
 TICKS = os.sysconf("SC_CLK_TCK")
 KINDS = {"definition": "places", "references": "places", "hover": "contents"}
@@ -110,17 +107,17 @@ def called(used: dict[str, float], *words: str) -> None:
     """Calls a tool."""
     used["memory"], before = 0, children_seconds()
     with tempfile.TemporaryFile() as said:
-        with subprocess.Popen(words, stdout=said, stderr=said) as tool:
-            while tool.poll() is None:
-                used["memory"] = max(used["memory"], shared_memory(tool.pid))
+        with subprocess.Popen(words, stdout=said, stderr=said) as call:
+            while call.poll() is None:
+                used["memory"] = max(used["memory"], shared_memory(call.pid))
                 try:
-                    tool.wait(EACH)
+                    call.wait(EACH)
                 except subprocess.TimeoutExpired:
                     pass
         said.seek(0)
         text = said.read().decode().rstrip("\n")
     used["seconds"] = children_seconds() - before
-    if tool.returncode != 0:
+    if call.returncode != 0:
         sys.exit(f"{words[0]}: {text}")
     print(text, flush=True)
 
@@ -257,14 +254,14 @@ def head_of(folder: str) -> Head:
 def split(name: str, path: str, own: str, pid: int) -> None:
     """Splits a dump."""
     with stage(f"{name}, split", pid) as used:
-        words = ["--jobs", PROCESSES, "--name", name.split()[0], path, own]
-        called(used, *command("split-lsif"), *words)
+        options = ["--jobs", PROCESSES, "--name", name.split()[0]]
+        called(used, *split_words(path, own, *options))
 
 
 def published(name: str, url: str, own: str, pid: int) -> None:
     """Publishes what is in a folder."""
     with stage(f"{name}, published", pid) as used:
-        called(used, *command("publish-set"), url, own)
+        called(used, *tool("upload", url, own))
 
 
 def changed(large: str, own: str, uri: str, pid: int) -> str:
@@ -331,16 +328,22 @@ def measured(program: str, large: str, small: str, count: int, folder: str) -> N
     server.end()
 
 
-def main(words: list[str]) -> None:
-    """Reads the command line."""
-    if len(words) not in (3, 4, 5):
-        sys.exit("usage: bench/sets.py PROGRAM LARGE SMALL [ASKED [FOLDER]]")
-    count = int((words[3:] or ["300"])[0])
+def main() -> None:
+    options = argparse.ArgumentParser(
+        description=__doc__, formatter_class=argparse.RawDescriptionHelpFormatter
+    )
+    options.add_argument("program", help="the built one")
+    options.add_argument("large", help="a prepared dump, as `bench/copies.py joined` makes one")
+    options.add_argument("small", help="another one")
+    options.add_argument("asked", nargs="?", type=int, default=300, help="of each kind; 300")
+    kept = "keeps the splits, and a later run takes those that it has"
+    options.add_argument("folder", nargs="?", help=kept)
+    given = options.parse_args()
     with tempfile.TemporaryDirectory() as made:
-        folder = (words[4:] or [made])[0]
+        folder = given.folder or made
         os.makedirs(folder, exist_ok=True)
-        measured(words[0], words[1], words[2], count, folder)
+        measured(given.program, given.large, given.small, given.asked, folder)
 
 
 if __name__ == "__main__":
-    main(sys.argv[1:])
+    main()

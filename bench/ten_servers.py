@@ -1,4 +1,3 @@
-#!/usr/bin/env python3
 """Measures sets on several servers: so many large dumps that are joined with each other
 (joined_dumps.py), each the set of a server of its own. Of the first one's server all is done: its
 set is split and put there, and the surfaces of all others too. Beside it one server has the first
@@ -27,10 +26,8 @@ from concurrent.futures import ProcessPoolExecutor
 from contextlib import ExitStack
 from typing import Any, Callable
 
-TOP = os.path.dirname(os.path.dirname(os.path.abspath(__file__)))
-sys.path.insert(0, os.path.join(TOP, "tools"))
-
 from joined_dumps import Place, make_text, write_renamed
+from sets import children_seconds, processor_seconds, stage
 
 from codenav.asking.index import Index
 from codenav.client.fetch import fetch_from
@@ -41,7 +38,6 @@ from codenav.sets.publish.publish import Publish
 from codenav.sets.publish.store import Store
 from codenav.sets.split.split import SplitOptions, split
 from codenav.sets.surface.made import SurfaceFiles, made_surface
-from sets import children_seconds, processor_seconds, stage
 
 ASKED = 400
 SECONDS = 300

@@ -1,7 +1,9 @@
-"""Measures calls of the tools: see bench/tools.sh."""
+"""Measures the tools: a call of `ask` as a whole, and a question of a tool that runs on, beside the
+same question by a process of curl, in one run.
+"""
 
+import argparse
 import os
-import pathlib
 import resource
 import statistics
 import subprocess
@@ -10,8 +12,8 @@ import tempfile
 import time
 from typing import Callable
 
-TOP = pathlib.Path(__file__).resolve().parent.parent
-sys.path.insert(0, str(TOP / "tools"))
+from servers import TOP
+from watched import tool
 
 from codenav.client.http import address, found_in, request
 from codenav.faults import Failed
@@ -36,11 +38,9 @@ def calls_at(url: str, others: list[str]) -> dict[str, Callable[[], object]]:
     calls: dict[str, Callable[[], object]] = {
         "python3 that does nothing": made(sys.executable, "-c", "")
     }
-    for name, tools in [
-        ("ask", str(TOP / "tools")),
-        *((f"ask of {other}", other) for other in others),
-    ]:
-        calls[name] = made(sys.executable, f"{tools}/ask", *words, *place)
+    calls["ask"] = made(*tool("ask", *words, *place))
+    for other in others:
+        calls[f"ask of {other}"] = made(sys.executable, f"{other}/ask", *words, *place)
     calls["a question by a process of curl"] = made("curl", "--silent", "--noproxy", "*", asked)
     calls["a question of lsp or browse"] = lambda: found_in(request(asked), "places")
     return calls
@@ -56,20 +56,26 @@ def processor_seconds() -> float:
 def main() -> int:
     """Prints the median and the least time of each call, in turns, and `ask` as a share of those of
     other states."""
-    program, count = sys.argv[1], int(sys.argv[2]) if len(sys.argv) > 2 else CALLS
+    options = argparse.ArgumentParser(
+        description=__doc__, formatter_class=argparse.RawDescriptionHelpFormatter
+    )
+    options.add_argument("program", help="the built one")
+    options.add_argument("calls", nargs="?", type=int, default=CALLS, help=f"{CALLS} without it")
+    state = "the folder `tools` of another state of the repository, measured in turn"
+    options.add_argument("others", nargs="*", metavar="OTHER", help=state)
+    given = options.parse_args()
     walls: dict[str, list[float]] = {}
     used: dict[str, list[float]] = {}
-    with tempfile.TemporaryDirectory() as folder, Program(program).serve() as server:
+    with tempfile.TemporaryDirectory() as folder, Program(given.program).serve() as server:
         url = server.url
         # each tool is compiled once, as it is for its users
         os.environ.pop("PYTHONDONTWRITEBYTECODE", None)
         os.environ["PYTHONPYCACHEPREFIX"] = f"{folder}/compiled"
         dump = f"{folder}/dump"
-        tools = TOP / "tools"
-        made(sys.executable, f"{tools}/prepare-lsif", str(TOP / "demo/crate.raw.lsif"), dump)()
-        made(sys.executable, f"{tools}/upload-lsif", url, "temperature", dump)()
-        calls = calls_at(url, sys.argv[3:])
-        for _ in range(count):
+        made(*tool("prepare", str(TOP / "demo/crate.raw.lsif"), dump))()
+        made(*tool("upload", url, "temperature", dump))()
+        calls = calls_at(url, given.others)
+        for _ in range(given.calls):
             for name, call in calls.items():
                 start, before = time.perf_counter(), processor_seconds()
                 call()
@@ -79,7 +85,7 @@ def main() -> int:
         middle, least = statistics.median(taken) * 1e3, min(taken) * 1e3
         own = statistics.median(used[name]) * 1e3
         print(f"{name:32} p50 {middle:7.2f} ms, least {least:7.2f} ms; processor p50 {own:7.2f} ms")
-    for other in sys.argv[3:]:
+    for other in given.others:
         shares = [
             statistics.median(times["ask"]) / statistics.median(times[f"ask of {other}"])
             for times in (walls, used)

@@ -9,7 +9,6 @@ import re
 from itertools import count
 from typing import Any, Iterator, NamedTuple, Optional
 
-from codenav import limits
 from codenav.addresses import folder_address
 
 ADDRESS = "codenav:index"
@@ -110,6 +109,8 @@ class Prepared:
     def add(self, record: Record) -> bool:
         """Writes a record behind the dump's elements, in the place of one that it wrote before; says
         whether it's within the limits of the server with it, and writes nothing where it isn't."""
+        from codenav import limits  # here, for it takes `ask` long to load
+
         ids = (name for number in count(1) if (name := f"{ADDRESS} {number}") not in self.taken)
         elements = list(elements_of(record, ids))
         text = b"" if self.is_ended else b"\n"

@@ -1,4 +1,4 @@
-"""Whether the server accepts a dump, said again in Python from docs/DEFINITIONS.md, plainly and
+"""Whether the server accepts a dump, said again in Python from docs/inside/DEFINITIONS.md, plainly and
 slowly: what the tests hold the tools' output to."""
 
 import json

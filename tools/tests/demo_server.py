@@ -19,7 +19,7 @@ MAP = ["--map", "file:///src/tr=demo", "--tags", "temperature=demo/crate"]
 def succeed(words: list[str]) -> None:
     """Makes a call that must end with status 0."""
     if run(words)[1] != 0:
-        raise Failed(f"{words[0]} failed")
+        raise Failed(f"codenav {words[0]} failed")
 
 
 @contextmanager
@@ -31,9 +31,9 @@ def demo_server(program: str) -> Iterator[str]:
         url = server.url
         for project, raw in PROJECTS.items():
             dump = os.path.join(folder, "prepared.lsif")
-            succeed(["prepare-lsif", raw, dump])
-            succeed(["upload-lsif", url, project, dump])
-        succeed(["upload-tags", url, "temperature", TAGS])
+            succeed(["prepare", raw, dump])
+            succeed(["upload", url, project, dump])
+        succeed(["upload", url, "temperature", TAGS])
         yield url
 
 

@@ -1,4 +1,4 @@
-"""Answers of whole dumps by a walk over their elements, as docs/DEFINITIONS.md says them, for tests
+"""Answers of whole dumps by a walk over their elements, as docs/inside/DEFINITIONS.md says them, for tests
 that need no server; and random dumps to walk.
 
 It's written for being read: it has the edges of each kind by their ends, and nothing is joined or cut

@@ -36,7 +36,7 @@ FORMS = {
 }
 # the text and the status of each code, as the page has them
 ROW = re.compile(r"^\| ([A-Z][0-9]{2}) \| (.+?) \|(?: ([0-9]{3}) \|)?$", re.M)
-with open(os.path.join(TOP, "docs", "DEFINITIONS.md"), encoding="utf-8") as page:
+with open(os.path.join(TOP, "docs", "inside", "DEFINITIONS.md"), encoding="utf-8") as page:
     CODES = {code: (text, int(status or 422)) for code, text, status in ROW.findall(page.read())}
 TABLES = """
 CREATE TABLE IF NOT EXISTS document (project, part, profile, body, PRIMARY KEY (project, part));

@@ -1,4 +1,4 @@
-"""What the server reads in a tags file, said again in Python from docs/DEFINITIONS.md and tags(5),
+"""What the server reads in a tags file, said again in Python from docs/inside/DEFINITIONS.md and tags(5),
 plainly: its tags, or its first fault."""
 
 import re

@@ -536,7 +536,7 @@ class Input(unittest.TestCase):
             self.assertEqual(addresses.spelled(wanted), wanted)
 
     def test_other_tools(self) -> None:
-        """`why` reads a dump in each form; `explain-fault` reads the lines that were checked."""
+        """`why` reads a dump in each form; `explain` reads the lines that were checked."""
         plain = b"\n".join(lines_of_base()) + b"\n"
         elements = [json.loads(line) for line in plain.splitlines()]
         for body in (

@@ -13,7 +13,8 @@ import tomllib
 
 from tests.servers import TOP
 
-CHECKED = ["tools/codenav", "tools/wheel", "tools/tests", "bench", "packaging/stage", "quick"]
+CHECKED = ["tools/codenav", "tools/tests", "bench", "checks", "quick"]
+CHECKED += ["packaging/stage", "packaging/completions"]
 BLACK = "23."
 
 

@@ -215,7 +215,9 @@ class OpenApi(unittest.TestCase):
         }
         self.assertEqual(listed, {pair for pair in used if pair[0] != "422"})
         definitions = set(
-            re.findall(r"^\| ([LET]\d\d) \|", text_of("docs", "DEFINITIONS.md"), re.MULTILINE)
+            re.findall(
+                r"^\| ([LET]\d\d) \|", text_of("docs", "inside", "DEFINITIONS.md"), re.MULTILINE
+            )
         )
         self.assertEqual(definitions, {code for status, code in used if status == "422"})
 

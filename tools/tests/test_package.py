@@ -16,8 +16,8 @@ from contextlib import redirect_stderr, redirect_stdout
 import tomllib
 
 from codenav import VERSION
-from codenav.cli.main import TOOLS, main, usage
-from codenav.program import NONE, PACKAGED, WORDS
+from codenav.cli.main import OWN, TOOLS, main, usage
+from codenav.program import NONE, PACKAGED
 from tests.packages import needs
 from tests.servers import BUILT, SECONDS, TOP, OnServer, built_program, command
 
@@ -34,11 +34,11 @@ def files_of(folder: str) -> set[str]:
 
 class OneCommand(unittest.TestCase):
     def test_each_tool(self) -> None:
-        for name, tool in TOOLS.items():
+        for name in TOOLS:
             with self.subTest(name), redirect_stdout(io.StringIO()) as said:
                 with self.assertRaises(SystemExit) as end:
                     main([name, "--help"])
-            words = ["usage:", "codenav", name] if tool.command else ["usage:", name]
+            words = ["usage:", "codenav", name]
             self.assertEqual(
                 (end.exception.code, said.getvalue().split()[: len(words)]), (0, words)
             )
@@ -46,7 +46,7 @@ class OneCommand(unittest.TestCase):
     def test_help_is_one_screen(self) -> None:
         lines = usage().splitlines()
         self.assertLessEqual((len(lines), max(map(len, lines))), (24, 80))
-        for word in WORDS:
+        for word in OWN:
             self.assertIn(f"\n  {word} ", usage())
 
     def test_version(self) -> None:
@@ -60,9 +60,9 @@ class OneCommand(unittest.TestCase):
                 with open(path, "w", encoding="utf-8") as out:
                     out.write("#!/bin/sh\necho codenav 7.8\n")
                 os.chmod(path, 0o755)
-                status, printed, _ = self.called("--version", CODENAV_PROGRAM=path)
                 wanted = f"codenav {VERSION}\nthe program 7.8, {said}: {path}\n"
-                self.assertEqual((status, printed), (0, wanted))
+                found = self.called("--version", CODENAV_PROGRAM=path)
+                self.assertEqual(found, (0, wanted, ""))
 
     def called(self, *words: str, **more: str) -> tuple[int, str, str]:
         """The status of a call in a process of its own, and what it printed."""
@@ -84,10 +84,8 @@ class OneCommand(unittest.TestCase):
             self.assertEqual(
                 (said.getvalue() != "", warned.getvalue().count("\n")), (status == 0, status // 2)
             )
-        status, _, warned = self.called("restore", "/no/folder", "/no/other")
-        self.assertEqual(
-            (status, warned), (2, "codenav restore: /no/folder: no copy of a database\n")
-        )
+        found = self.called("restore", "/no/folder", "/no/other")
+        self.assertEqual(found, (2, "", "codenav restore: /no/folder: no copy of a database\n"))
 
     def test_the_program(self) -> None:
         """Its words are its own, wherever it is; where it's nowhere that's one line."""
@@ -96,7 +94,7 @@ class OneCommand(unittest.TestCase):
             with open(path, "w", encoding="utf-8") as out:
                 out.write('#!/bin/sh\necho "$@"\nexit 7\n')
             os.chmod(path, 0o755)
-            for word in WORDS:
+            for word in OWN:
                 status, said, _ = self.called(word, "--x", "y z", CODENAV_PROGRAM=path)
                 self.assertEqual((status, said), (7, f"{word} --x y z\n"))
             # a script of the name may be these tools again
@@ -121,10 +119,13 @@ class OneCommand(unittest.TestCase):
                 wanted = 128 + number, f"codenav list: ended by {text}\n"
                 self.assertEqual((call.returncode, warned), wanted)
         for words in ["--help"], ["turn", "--help"]:
-            pipes = {"stdout": subprocess.PIPE, "stderr": subprocess.PIPE}
-            with subprocess.Popen([*command(words[0]), *words[1:]], **pipes) as call:  # type: ignore[call-overload]
-                call.stdout.close()
-                self.assertEqual((call.stderr.read(), call.wait(SECONDS)), (b"", 141))
+            out, into = os.pipe()
+            os.close(out)
+            done = subprocess.run(
+                [*command(words[0]), *words[1:]], stdout=into, stderr=subprocess.PIPE, check=False
+            )
+            os.close(into)
+            self.assertEqual((done.stderr, done.returncode), (b"", 141))
 
 
 class Installed(OnServer):

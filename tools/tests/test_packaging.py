@@ -16,7 +16,7 @@ from configparser import RawConfigParser
 
 from codenav.cli.main import OWN, TOOLS
 from codenav.client.http import request
-from codenav.program import PACKAGED, WORDS, Program, free_port
+from codenav.program import PACKAGED, Program, free_port
 from tests.servers import NOT_BUILT, TOP, built_program, command
 
 PACKAGING = os.path.join(TOP, "packaging")
@@ -74,7 +74,7 @@ class Files(unittest.TestCase):
         """Each word is completed, and its options."""
         for shell in ("bash", "zsh", "fish"):
             made = self.completed(shell)
-            for word in [*WORDS, *(name for name, tool in TOOLS.items() if tool.command)]:
+            for word in [*OWN, *TOOLS]:
                 self.assertRegex(made, rf"\b{word}\b")
             self.assertRegex(made, r"second-port\b")
 
@@ -109,9 +109,8 @@ class Files(unittest.TestCase):
             self.skipTest(NOT_BUILT)
         table = runpy.run_path(os.path.join(PACKAGING, "completions"))["PROGRAM"]
         self.assertEqual(list(table), list(OWN))
-        self.assertEqual(set(table), set(WORDS))
         said = Program(found).called("--help").out
-        self.assertEqual(set(re.findall(r"(?m)^  ([a-z-]+) +[A-Z]", said)), {*WORDS, "help"})
+        self.assertEqual(set(re.findall(r"(?m)^  ([a-z-]+) +[A-Z]", said)), {*OWN, "help"})
         for word, taken in table.items():
             said = Program(found).called(word, "--help").out
             options = set(re.findall(r"(?m)^ +(?:-h, )?(--[a-z]+)", said)) - {"--help"}
@@ -171,13 +170,13 @@ class LaidOut(unittest.TestCase):
             path = f"{made}/usr/share/man/man1/codenav-{name}.1.gz"
             with gzip.open(path, "rt", encoding="utf-8") as page:
                 self.assertIn(
-                    f"usage: {'codenav ' * bool(TOOLS[name].command)}{name} ",
+                    f"usage: codenav {name} ",
                     page.read().replace("\\-", "-"),
                 )
         with gzip.open(f"{made}/usr/share/man/man1/codenav.1.gz", "rt", encoding="utf-8") as page:
             self.assertIn("Usage: codenav check-lsif ", page.read().replace("\\-", "-"))
         os.symlink(f"{made}/usr/bin/codenav", f"{self.folder}/link")
-        for name in [*TOOLS, *WORDS]:
+        for name in [*TOOLS, *OWN]:
             done = self.called(f"{self.folder}/link", name, "--help")
             self.assertEqual((done.returncode, done.stderr), (0, ""), name)
         said = self.called(f"{made}/usr/bin/codenav", "--version").stdout

@@ -1,5 +1,5 @@
-"""Tests of the pages: their lines, their links, the files that they name, their examples, and that
-each tool has its row.
+"""Tests of the pages: their lines, their words, their links, the files that they name, their
+examples, and that each word of the command has its section.
 
 The examples need the built program, that of this clone or of CODENAV_PROGRAM, and the programs that
 they call. They are left out, and said to be, where one of these isn't there.
@@ -9,7 +9,6 @@ import functools
 import glob
 import os
 import re
-import shlex
 import shutil
 import subprocess
 import tempfile
@@ -20,7 +19,12 @@ from typing import Iterator
 from codenav.program import free_port
 from tests.servers import NOT_BUILT, TOP, built_program
 
-PAGES = sorted(glob.glob("*.md", root_dir=TOP)) + sorted(glob.glob("docs/*.md", root_dir=TOP))
+PAGES = [
+    page
+    for folder in ("*.md", "docs/*.md", "docs/inside/*.md")
+    for page in sorted(glob.glob(folder, root_dir=TOP))
+]
+MOST_WORDS = 40_000
 LONGEST_LINE = 100
 MOST_LINES = 120
 LINK = re.compile(r"\]\(([^)\s]*)\)")
@@ -30,11 +34,11 @@ FENCE = re.compile(r"^ *```", re.MULTILINE)
 
 FILE = re.compile(
     r"[\w.+-]+(?:/[\w.+-]+)*\.(?:rt|antt|py|sh|md|json|toml|lsif|scip|tags|http|replies|png|svg|lua|edit|rs|txt|yml)"
-    r"|(?:tools|bench|docs|demo|crates|edits|packaging)/[\w./-]*"
+    r"|(?:tools|bench|checks|docs|demo|crates|edits|packaging)/[\w./-]*"
 )
 # Files of other programs, of the toolchain, or that a reader makes.
 ELSEWHERE = {
-    *("crates/codenav/out/codenav", "display.rs", "error.rs"),
+    *("display.rs", "error.rs"),
     *("init.lua", "settings.json", "languages.toml", ".codenav.toml"),
 }
 
@@ -43,8 +47,10 @@ ELSEWHERE = {
 SESSIONS = [["README.md", "docs/TOOLS.md"], ["docs/API.md"]]
 NEEDED = {"rust-analyzer": "rust-web-analyzer", "ctags": "universal-ctags", "curl": "curl"}
 # What an indexer writes of a crate depends on what else is installed, so how much it is isn't
-# compared.
-COUNTED = re.compile(r'^(?:codenav prepare: |\{"accepted":"lsif")')
+# compared; nor is how long something took, or when.
+COUNTED = re.compile(r"^uploaded ")
+TIMES = re.compile(r"\d{8}T\d{6}Z|\d+(?:\.\d+)? s\b|\d+ bytes")
+PLACE = "/src/codenav"
 SECONDS = 600
 # It compiles the whole program, which takes minutes; the gate runs the program that it built.
 COMPILES = "(cd crates/codenav && rt try "
@@ -114,7 +120,7 @@ class Example:
 
     def stays(self) -> bool:
         """Whether it goes on by itself, so that only its first lines are compared."""
-        return self.command.endswith("&") or self.command.startswith("tools/browse ")
+        return self.command.endswith("&") or self.command.startswith("codenav browse ")
 
 
 def examples(page: str) -> list[Example]:
@@ -138,78 +144,84 @@ def is_shown(found: list[str], shown: list[str]) -> bool:
     dots."""
     if LEFT_OUT not in shown:
         return found == shown
-    begin = shown.index(LEFT_OUT)
-    end = len(shown) - begin - 1
-    return (
-        len(found) >= begin + end
-        and found[:begin] == shown[:begin]
-        and found[len(found) - end :] == shown[begin + 1 :]
-    )
+    at = shown.index(LEFT_OUT)
+    if found[:at] != shown[:at]:
+        return False
+    rest = shown[at + 1 :]
+    return any(is_shown(found[begin:], rest) for begin in range(at, len(found) + 1))
+
+
+def without_times(lines: list[str]) -> list[str]:
+    """Lines with a letter in the place of what differs from run to run, and of counts that an
+    indexer decides."""
+    timed = [TIMES.sub("T", line) for line in lines]
+    return [re.sub(r"\d+", "N", line) if COUNTED.match(line) else line for line in timed]
 
 
 class Session:
-    """A folder with the tools and the demo, in which examples run one after the other, on ports of
-    their own."""
+    """A checkout with the tools and the demo, in which examples run one after the other, on ports
+    of their own, with the command `codenav` on the path."""
 
     def __init__(self, program: str, folder: str) -> None:
-        self.folder = folder
-        self.ports = {"8080": str(free_port()), "8081": str(free_port())}
+        self.folder = os.path.realpath(folder)
+        self.ports = {port: str(free_port()) for port in ("8080", "8081", "8082", "8083")}
         self.running: list[subprocess.Popen[bytes]] = []
-        self.made: set[str] = set()
         for name in ("tools", "demo"):
-            shutil.copytree(os.path.join(TOP, name), os.path.join(folder, name))
-        path = os.path.join(folder, "codenav")
-        with open(path, "w", encoding="utf-8") as script:
-            script.write(f'#!/bin/sh\nexec {shlex.quote(os.path.abspath(program))} "$@"\n')
-        os.chmod(path, 0o755)
+            shutil.copytree(
+                os.path.join(TOP, name),
+                os.path.join(folder, name),
+                ignore=shutil.ignore_patterns("__pycache__", "target", "tests"),
+            )
+        for name in ("codenav", ".gitignore"):
+            shutil.copy(os.path.join(TOP, name), folder)
+        built = os.path.join(folder, "crates", "codenav", "out")
+        os.makedirs(built)
+        shutil.copy(program, os.path.join(built, "codenav"))
+        with open(os.path.join(folder, "crates.txt"), "w", encoding="utf-8"):
+            pass
+        os.utime(os.path.join(folder, "crates.txt"), (0, 0))
+        self.environment = {
+            **os.environ,
+            "PATH": f"{self.folder}:{os.environ['PATH']}",
+            "CODENAV_PROGRAM": os.path.abspath(program),
+            "CURL_HOME": self.folder,
+            "CARGO_NET_OFFLINE": "true",
+        }
         with open(os.path.join(folder, ".curlrc"), "w", encoding="utf-8") as options:
             options.write("silent\nshow-error\n")
+        own = ["git", "-c", "user.name=a", "-c", "user.email=a@b"]
+        for words in (["init", "--quiet"], ["add", "--all"], ["commit", "--quiet", "-m", "first"]):
+            subprocess.run([*own, *words], cwd=folder, check=True)
 
     def put_ports(self, text: str) -> str:
-        return re.sub(r"\b808[01]\b", lambda found: self.ports[found[0]], text)
-
-    def is_counted(self, command: str) -> bool:
-        """Whether the command is of a dump that an indexer made in this run; what it writes is such
-        a dump too."""
-        dumps = re.findall(r"[\w./-]+\.lsif", command)
-        is_made = "rust-analyzer" in command or any(name in self.made for name in dumps[:1])
-        change = self.made.update if is_made else self.made.difference_update
-        change(dumps)
-        return is_made
+        return re.sub(r"\b808[0-3]\b", lambda found: self.ports[found[0]], text)
 
     def output(self, example: Example) -> list[str]:
         """The lines that a command prints; of one that stays, as many as are shown."""
         command = self.put_ports(example.command.removesuffix("&"))
-        command = command.replace("tools/browse ", f"tools/browse --port {self.ports['8081']} ")
-        words = ["bash", "-c", command if not example.stays() else f"exec {command}"]
+        command = command.replace("codenav browse ", f"codenav browse --port {self.ports['8081']} ")
         process = subprocess.Popen(
-            words,
+            ["bash", "-c", command if not example.stays() else f"exec {command}"],
             cwd=self.folder,
-            env={**os.environ, "CURL_HOME": self.folder, "CARGO_NET_OFFLINE": "true"},
+            env=self.environment,
             stdin=subprocess.DEVNULL,
             stdout=subprocess.PIPE,
             stderr=subprocess.STDOUT,
         )
         if not example.stays():
             output, _ = process.communicate(timeout=SECONDS)
-            return output.decode().replace("\r", "").splitlines()
-        self.running.append(process)
-        assert process.stdout is not None
-        return [process.stdout.readline().decode().rstrip("\n") for _ in example.shown]
+            said = output.decode().replace("\r", "").splitlines()
+        else:
+            self.running.append(process)
+            assert process.stdout is not None
+            said = [process.stdout.readline().decode().rstrip("\n") for _ in example.shown]
+        return [line.replace(self.folder, PLACE) for line in said]
 
     def differs(self, example: Example) -> str:
         """How what a command prints differs from what its page shows; an empty text where it
         doesn't."""
-        shown = [self.put_ports(line) for line in example.shown]
-        is_counted = self.is_counted(example.command)
-        found = self.output(example)
-        if example.command.startswith("rust-analyzer "):
-            return ""
-        if is_counted:
-            shown, found = (
-                [re.sub(r"\d+", "N", line) if COUNTED.match(line) else line for line in lines]
-                for lines in (shown, found)
-            )
+        shown = without_times([self.put_ports(line) for line in example.shown])
+        found = without_times(self.output(example))
         if is_shown(found, shown):
             return ""
         return f"{example.page}: $ {example.command}\nprints:\n{chr(10).join(found)}\nand not:\n{chr(10).join(shown)}"
@@ -232,27 +244,32 @@ class Pages(unittest.TestCase):
         ]
         self.assertEqual("\n".join(wrong), "")
 
+    def test_words(self) -> None:
+        self.assertLessEqual(sum(len(text_of(page).split()) for page in PAGES), MOST_WORDS)
+
     def test_the_readme(self) -> None:
         text = text_of("README.md")
         self.assertLessEqual(text.count("\n"), MOST_LINES)
         self.assertEqual(set(PAGES) - set(LINK.findall(text)), {"README.md"})
 
-    def test_tools(self) -> None:
-        rows = "".join(
-            row for row in text_of("docs/TOOLS.md").splitlines() if row.startswith("| `tools/")
+    def test_each_word(self) -> None:
+        """Each word of the command has a section, or a row of the program's table, and examples."""
+        said = subprocess.run(
+            [os.path.join(TOP, "codenav"), "--help"], capture_output=True, text=True, check=True
         )
-        for tool in sorted(os.listdir(os.path.join(TOP, "tools"))):
-            path = os.path.join(TOP, "tools", tool)
-            if os.path.isfile(path):
-                self.assertIn(f"`tools/{tool}", rows)
-                done = subprocess.run(
-                    [path, "--help"], stdin=subprocess.DEVNULL, capture_output=True, check=False
-                )
-                self.assertEqual(
-                    (done.returncode, done.stdout.partition(b" ")[0], done.stderr),
-                    (0, b"usage:", b""),
-                    tool,
-                )
+        words = re.findall(r"^  ([a-z-]+)  ", said.stdout, re.MULTILINE)
+        self.assertIn("publish", words)
+        text = text_of("docs/TOOLS.md")
+        titles = [
+            word
+            for title in re.findall(r"^## (.*)$", text, re.MULTILINE)
+            for word in title.split(", ")
+        ]
+        called = [own.command for page in SESSIONS[0] for own in examples(page)]
+        called += [own.command for own in examples("docs/SCALE.md")]
+        for word in words:
+            self.assertTrue(word in titles or f"| `codenav {word} " in text, word)
+            self.assertTrue(any(f"codenav {word}" in command for command in called), word)
 
     def test_links(self) -> None:
         wrong = []

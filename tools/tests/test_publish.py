@@ -58,7 +58,7 @@ class OnCheckout(OnServer):
         script(os.path.join(self.bin, "rust-analyzer"), f'[ "$*" = "lsif ." ] && cat {RAW}')
         tools = os.path.join(TOP, "tools")
         script(
-            os.path.join(self.bin, "codenav-tools"),
+            os.path.join(self.bin, "codenav"),
             f'PYTHONPATH={tools} exec {sys.executable} -B -m codenav "$@"',
         )
         self.enterContext(

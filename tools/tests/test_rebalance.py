@@ -20,7 +20,7 @@ from codenav.faults import NoReply
 from codenav.program import free_port
 from codenav.sets.files import MANIFEST
 from codenav.sets.manifest import PartEntry
-from codenav.sets.publish import relocation
+from codenav.sets.publish import rebalance
 from codenav.sets.publish.claim import claimed
 from codenav.sets.publish.places import Place
 from codenav.sets.publish.store import Store
@@ -309,7 +309,7 @@ def changing(at: int, stop: Callable[[], None]) -> Any:
                 stop()
             super().change(method, path, parameters, body)
 
-    return mock.patch.object(relocation, "Place", Stops)
+    return mock.patch.object(rebalance, "Place", Stops)
 
 
 Break = Callable[["Refused"], Any]

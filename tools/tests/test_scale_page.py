@@ -24,7 +24,7 @@ PAGE = "docs/SCALE.md"
 SECONDS = 600
 SHARDS = "map $request_uri $codenav_shard {"
 # the commands that run here, in their order
-RUN = ("tools/publish --servers ", "tools/ask --tags app=. ")
+RUN = ("codenav publish --servers ", "codenav ask --tags app=. ")
 NAMES = [f"name{number}" for number in range(16)]
 Change = Callable[[str, Front, list[str]], str]
 
@@ -49,7 +49,7 @@ def with_block(text: str, start: str, block: str) -> str:
 
 class Page(unittest.TestCase):
     def setUp(self) -> None:
-        why = lacking("lua") or lacking("haproxy")
+        why = lacking("lua")
         if why:
             self.skipTest(why)
         self.stack = self.enterContext(ExitStack())
@@ -83,8 +83,9 @@ class Page(unittest.TestCase):
     def test_lua(self) -> None:
         """A line a machine, each with a front of its own before its server, which has neither TLS
         nor a login."""
-        self.assertIn("`listen\n10.0.0.1:8088;` in place of `listen 443 ssl;`", text_of(PAGE))
-        self.assertIn("`off` in place of `$codenav_login`", text_of(PAGE))
+        said = " ".join(text_of(PAGE).split())
+        self.assertIn("`listen 10.0.0.1:8088;` in place of `listen 443 ssl;`", said)
+        self.assertIn("`off` in place of `$codenav_login`", said)
 
         def plain(text: str, front: Front, places: list[str]) -> str:
             text = text.replace(
@@ -106,6 +107,9 @@ class Page(unittest.TestCase):
 
     def test_haproxy(self) -> None:
         """Four lines a machine."""
+        why = lacking("haproxy")
+        if why:
+            self.skipTest(why)
         places: list[str] = []
 
         def spread(text: str, front: Front, _: list[str]) -> str:
@@ -146,19 +150,19 @@ class Page(unittest.TestCase):
             file.write("def run_all():\n    pass\n")
         commands = {start: self.command(start) for start in RUN}
         dump = os.path.join(TOP, "demo", "crate.raw.lsif")
-        more = {"tools/publish": f"tools/publish --dump {dump}"}
+        more = {"publish": f"publish --dump {dump}"}
         said = {}
         for start, command in commands.items():
-            tool = start.split()[0]
-            command = command.replace(tool, more.get(tool, tool))
-            said[tool] = self.called(front, checkout, command)
+            word = start.split()[1]
+            command = command.replace(word, more.get(word, word), 1)
+            said[word] = self.called(front, checkout, command)
         home = home_of(self.servers, "app")
-        self.assertIn(f"uploaded app: a set at {home}, parts 1,", said["tools/publish"])
+        self.assertIn(f"uploaded app: a set at {home}, parts 1,", said["publish"])
         for server in self.servers:
             kinds = {re.sub("[0-9a-f]{16}$", "", name) for name in Store(server).projects()}
             wanted = {"app-", "app-parts", "app-claim"} if server == home else {"app-surface-"}
             self.assertEqual(kinds, wanted)
-        self.assertEqual(said["tools/ask"], "run.py:1:5: run_all\n")
+        self.assertEqual(said["ask"], "run.py:1:5: run_all\n")
 
     def command(self, start: str) -> str:
         """The command of the page that begins so."""
@@ -166,15 +170,15 @@ class Page(unittest.TestCase):
         return found
 
     def test_others(self) -> None:
-        """What other commands there are is called by a test of its own, by its first option."""
+        """The words of what other commands there are are called by a test of its own."""
         tests = "".join(
             path.read_text("utf-8")
             for path in pathlib.Path(TOP, "tools", "tests").glob("test_*.py")
         )
         for example in examples(PAGE):
             if not example.command.startswith(RUN):
-                option = example.command.split()[1]
-                self.assertIn(f'"{option}"', tests, example.command)
+                word = example.command.split()[1].upper()
+                self.assertRegex(tests, rf"\b{word}\b", example.command)
 
     def called(self, front: Front, folder: str, command: str) -> str:
         """What a command of the page prints in a folder."""
@@ -182,9 +186,14 @@ class Page(unittest.TestCase):
         command = command.replace("https://codenav.example.org", front.url)
         certificate = f"{front.folder}/codenav/certificate.pem"
         done = subprocess.run(
-            ["bash", "-c", command.replace("tools/", f"{TOP}/tools/", 1)],
+            ["bash", "-c", command],
             cwd=folder,
-            env={**os.environ, "SSL_CERT_FILE": certificate, "CODENAV_USER": fronts.USER},
+            env={
+                **os.environ,
+                "PATH": f"{TOP}:{os.environ['PATH']}",
+                "SSL_CERT_FILE": certificate,
+                "CODENAV_USER": fronts.USER,
+            },
             stdin=subprocess.DEVNULL,
             capture_output=True,
             timeout=SECONDS,

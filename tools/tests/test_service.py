@@ -451,8 +451,28 @@ class Turns(OnService):
         self.assertEqual(self.called("turn", self.folder)[0], 0)
         self.ended(process)
         self.service("--front", f"http://127.0.0.1:{free_port()}")
-        status, said = self.called("turn", self.folder)
-        self.assertEqual((status, "no turn: " in said, self.answers()), (1, True, True), said)
+        for _ in range(2):
+            status, said = self.called("turn", self.folder)
+            self.assertEqual((status, "no turn: " in said, self.answers()), (1, True, True), said)
+
+    def test_a_turn_that_finds_no_room(self) -> None:
+        """Where the other side can't be made the server goes on, and writes too; the next turn is
+        taken."""
+        self.service("--front", self.local)
+        server = self.known().server
+        with open(f"{self.folder}/b", "wb"):
+            pass
+        for _ in range(2):
+            status, said = self.called("turn", self.folder)
+            self.assertEqual((status, said), (1, f"no turn: {self.folder}/b: File exists\n"))
+        self.assertEqual((self.known().server, self.ports()), (server, ["--port"]))
+        begin = time.monotonic()
+        path = "/projects/app/lsif?key=k"
+        self.assertEqual(self.front.ask("PUT", path, (DUMP % "one").encode())[0], 200)
+        self.assertLess(time.monotonic() - begin, 5)
+        os.unlink(f"{self.folder}/b")
+        self.assertEqual(self.called("turn", self.folder)[0], 0)
+        self.assertEqual(self.ports(), ["--second-port"])
 
 
 if __name__ == "__main__":

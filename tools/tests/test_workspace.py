@@ -16,8 +16,8 @@ from codenav.cli.prepare import PREPARE
 from codenav.cli.upload import UPLOAD
 from codenav.faults import BadCall
 from codenav.settings.found import FILE, Settings, settings_in
-from codenav.texts import places
 from codenav.texts.decoded import text_of
+from codenav.texts.places import Place as FilePlace
 from codenav.texts.places import units, uri_of
 from tests.repository import InRepository, checkouts
 from tests.servers import TOP, OnServer
@@ -161,7 +161,7 @@ class SettingsFile(unittest.TestCase):
                 elif os.path.exists(os.path.join(self.folder, folder, FILE)):
                     os.remove(os.path.join(self.folder, folder, FILE))
                 with self.assertRaises(BadCall) as caught:
-                    workspace.ask("definition", places.Place(path, 0, 0))
+                    workspace.ask("definition", FilePlace(path, 0, 0))
                 self.assertTrue(str(caught.exception).startswith(fault), caught.exception)
         deep = os.path.join(self.folder, "deep", FILE)
         self.assertEqual([line.split(": ")[0] for line in said], [deep])

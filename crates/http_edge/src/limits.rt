@@ -22,5 +22,5 @@ pub(crate) const LENGTH_DIGITS: usize = 19;
 pub(crate) const REPLY_HEAD_LIMIT: usize = 256;
 
 /// The most bytes of a reply that its first write takes, 64 KiB. No client depends on it;
-/// `docs/BENCH.md` has what one write in place of two saves.
+/// `docs/inside/BENCH.md` has what one write in place of two saves.
 pub(crate) const FIRST_BYTES: usize = 65_536;

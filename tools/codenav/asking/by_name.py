@@ -100,7 +100,6 @@ class ByName:
 
 def found_at(tag: Tag, place: Place) -> dict[str, Any]:
     """The place of a tag's name, as the places of an answer are."""
-    start = {"line": place.line, "character": place.character}
-    end = {"line": place.line, "character": place.character + units(tag["name"])}
+    end = place._replace(character=place.character + units(tag["name"]))
     own = {"project": tag["project"], "path": place.name, "uri": uri_of(place.name, [])}
-    return {**own, "start": start, "end": end}
+    return {**own, "start": place.position(), "end": end.position()}

@@ -28,6 +28,11 @@ ALIKE = 3
 TRIES = 5
 
 
+def stored(name: str) -> str:
+    """The name of a project or a set as the server has it."""
+    return name.replace("@", BRANCH)
+
+
 def order_of(place: Found) -> tuple[Any, ...]:
     """The order of places in an answer."""
     ends = [place[end][number] for end in ("start", "end") for number in ("line", "character")]
@@ -47,7 +52,7 @@ class Index:
     """
 
     def __init__(self, name: str, fetch: Fetch) -> None:
-        self.name = name.replace("@", BRANCH)
+        self.name = stored(name)
         self.sets = Sets(fetch)
         self.is_none = False
 

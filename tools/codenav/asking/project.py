@@ -11,7 +11,7 @@ from codenav.asking.versions import Versions
 from codenav.client.fetch import Fetch
 from codenav.faults import NO_DOCUMENT, NO_DUMP, NoReply
 from codenav.texts.places import Place, is_mapped, map_words, path_of, uri_of, work_tree
-from codenav.texts.today import IndexPlace, NotThere, Today
+from codenav.texts.today import NotThere, Today
 
 TRIES = 4
 MEMBERS = {"hover": "contents"}
@@ -52,14 +52,12 @@ class Project:
         except NoReply as fault:
             if fault.code() != NO_DUMP or not os.path.isabs(at.name):
                 raise
-            found = self.tags.definitions(at) if what == "definition" else []
+            found: Any = self.tags.definitions(at) if what == "definition" else []
             if not found and not self.tags.are_there():
                 raise
-        if what == "definition":
-            note = f"{self.name} has tags alone: the definition is by name"
-            return Reply(found, "", "", note)
-        note = f"{self.name} has tags alone: no {what}"
-        return Reply(None if what == "hover" else [], "", "", note)
+        note = "the definition is by name" if what == "definition" else f"no {what}"
+        found = None if what == "hover" else found
+        return Reply(found, "", "", f"{self.name} has tags alone: {note}")
 
     def by_name(self, at: Place) -> Reply:
         """The definitions by name, where they're asked for. Raises NoReply."""
@@ -76,7 +74,8 @@ class Project:
             self.learn(path)
             try:
                 place = self.today.to_index(self.name, at)
-                found = self.found(what, place, more)
+                asked = {"uri": place.uri, "line": place.line, "character": place.character}
+                found = self.index.query(what, {**asked, **more}, MEMBERS.get(what, "places"))
             except NotThere as new:
                 fault = new
             except NoReply as refusal:
@@ -158,8 +157,3 @@ class Project:
         return NoReply(
             f"{text}: the project has no such document, or its dump was made in another folder, which --map URI=FOLDER says"
         )
-
-    def found(self, what: str, place: IndexPlace, more: dict[str, str]) -> Any:
-        """What the index has at a place that it knows."""
-        at = {"uri": place.uri, "line": place.line, "character": place.character}
-        return self.index.query(what, {**at, **more}, MEMBERS.get(what, "places"))

@@ -3,9 +3,8 @@ and a project by the record that `publish` keeps with its dump."""
 
 from typing import NamedTuple, Optional
 
-from codenav.asking.index import Index
+from codenav.asking.index import Index, stored
 from codenav.faults import NO_DOCUMENT, NO_DUMP, BadCall, NoReply
-from codenav.names import BRANCH
 from codenav.records import AT, record_in
 from codenav.sets.known import Away
 
@@ -44,7 +43,7 @@ class Versions:
         """Of what an index is after an answer, and whether it was known to be that. One that was of
         no revision isn't read again. Raises NoReply."""
         before = self.known.pop(name, None)
-        is_set = self.index.sets.heads.get(named(name)) is not None
+        is_set = self.index.sets.heads.get(stored(name)) is not None
         now = self.read(name) if before is None or before.revision or is_set else before
         if now.revision:
             self.known[name] = now
@@ -60,7 +59,7 @@ class Versions:
 
     def told(self, name: str) -> Version:
         """What an index says now, of which it's known whether it's a set: by a request at most."""
-        sets, own = self.index.sets, named(name)
+        sets, own = self.index.sets, stored(name)
         if sets.heads.get(own) is not None:
             return self.of_set(own) or Version()  # which the answer was checked by
         try:
@@ -102,8 +101,3 @@ class Versions:
         if record is None:
             return Version()
         return Version(record.mark, record.revision, record.folder, UNCOMMITTED)
-
-
-def named(name: str) -> str:
-    """The name of a project or a set as the server has it."""
-    return name.replace("@", BRANCH)

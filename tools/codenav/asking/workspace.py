@@ -7,7 +7,7 @@ each of its project, and needs no command line.
 
 import os
 import stat
-from typing import Any, Callable, Iterator, Optional, Union
+from typing import Callable, Iterator, Optional, Union
 
 from codenav.asking.project import Project, Reply
 from codenav.asking.tags import Names, Tag

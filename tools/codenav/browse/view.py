@@ -12,7 +12,7 @@ from codenav.browse.folder import MOST_BYTES, Folder, Refused
 from codenav.faults import BadCall, NoReply
 from codenav.settings.found import Settings
 from codenav.texts.decoded import lines_in
-from codenav.texts.git import git, line_of, top_of
+from codenav.texts.git import found_in, top_of
 from codenav.texts.moved.text_map import TextMap
 from codenav.texts.moved.tokens import tokens_of
 from codenav.texts.places import Place
@@ -122,11 +122,7 @@ def permalink(view: View, at: Place) -> tuple[str, int, int]:
     isn't there."""
     path, line, character = at
     top = top_of(os.path.dirname(os.path.realpath(path)))
-    commit = (
-        view.revision or line_of(git(top, "rev-parse", "--verify", "--quiet", "HEAD^{commit}"))
-        if top
-        else ""
-    )
+    commit = (view.revision or found_in(top, "HEAD^{commit}")) if top else ""
     if not commit:
         raise Refused(404, "not in a checkout of git, so an address has no revision")
     checkout = Checkout(commit)

@@ -3,6 +3,7 @@
 import argparse
 import json
 import os
+from functools import lru_cache
 from typing import Any, NamedTuple, Optional
 
 from codenav.asking.by_name import found_at, has_dump, has_tags
@@ -15,8 +16,8 @@ from codenav.cli.show import Shown
 from codenav.client.fetch import fetch_from
 from codenav.client.http import SECONDS
 from codenav.faults import NoReply
-from codenav.settings.found import FILE, Settings, nearest, settings_by
-from codenav.texts.decoded import counts_bytes
+from codenav.settings.found import FILE, Settings, settings_by
+from codenav.texts.decoded import counts_bytes, lines_of
 from codenav.texts.hovers import hover_text
 from codenav.texts.places import Maps, Place, asked_path, character_at, path_of, place_line, uri_of
 from codenav.texts.today import NotThere, Today, is_whole_file, position_of
@@ -27,7 +28,10 @@ KINDS = {
     "implementation": "where it's implemented, of a dump of profile 2",
     "references": "where it's used",
     "hover": "what is said of it",
+    "names": "the tags of a name, or those whose names begin with a text",
 }
+MOST_FILES = 8
+warn = Shown("codenav ask").warn
 
 
 class AskCall(Asking):
@@ -52,11 +56,6 @@ class Answer(NamedTuple):
 
     reply: dict[str, Any]
     lines: list[str]
-
-
-def warn(line: str) -> None:
-    """Says a line on the standard error."""
-    Shown("codenav ask").warn(line)
 
 
 def project_of(settings: Settings) -> Project:
@@ -86,6 +85,12 @@ def tags_of(call: AskCall, settings: Settings, project: Project) -> list[Tag]:
     return tags
 
 
+def place_lines(places: list[Place], utf16: bool) -> list[str]:
+    """What is printed of places; the files that were read last are kept."""
+    read = lru_cache(MOST_FILES)(lines_of)
+    return [place_line(place, utf16, read) for place in places]
+
+
 def answer_names(call: AskCall, settings: Settings) -> Answer:
     """The names that a call asks for. Raises NoReply."""
     project, names = project_of(settings), Names()
@@ -98,9 +103,10 @@ def answer_names(call: AskCall, settings: Settings) -> Answer:
         project.today.end()
     if said := names.said():
         warn(said)
+    lines = place_lines([place for _, place in named], call.utf16)
     return Answer(
         {"tags": [{**tag, **found_at(tag, place)} for tag, place in named]},
-        [f"{place_line(place, call.utf16)}: {tag['name']}" for tag, place in named],
+        [f"{line}: {tag['name']}" for (tag, _), line in zip(named, lines)],
     )
 
 
@@ -140,10 +146,10 @@ def answer_at(call: AskCall, settings: Settings) -> Answer:
         return Answer({"contents": found}, [] if found is None else [hover_text(found)])
     if call.what != "references" and len(found) == 1 and is_whole_file(found[0], call.file):
         warn(f"nothing but a range over all of {call.file} covers this place")
-    places = (Place(one["path"] or one["uri"], *position_of(one["start"])) for one in found)
+    places = [Place(one["path"] or one["uri"], *position_of(one["start"])) for one in found]
     return Answer(
         {"places": [shown(one, settings.maps) for one in found]},
-        list(dict.fromkeys(place_line(place, call.utf16) for place in places)),
+        list(dict.fromkeys(place_lines(places, call.utf16))),
     )
 
 
@@ -151,7 +157,7 @@ def ask(call: AskCall) -> int:
     """Asks and prints the answer; answers 0 with an answer and 1 with an empty one."""
     above = os.path.dirname(os.path.abspath(call.file)) if call.what != "names" else os.curdir
     given = call.settings(call.url, call.project, os.curdir)
-    settings = settings_by(given, nearest(above), f"above {above}")
+    settings = settings_by(given, above)
     reply, lines = (answer_names if call.what == "names" else answer_at)(call, settings)
     for line in [json.dumps(reply, sort_keys=True, separators=(",", ":"))] if call.json else lines:
         print(line)
@@ -189,39 +195,32 @@ def add(parser: argparse.ArgumentParser) -> None:
         help="what to ask for; each has --help",
         prog="codenav ask [OPTION..] [[URL] PROJECT]",
     )
-
-    def added(kind: str, text: str, description: str) -> argparse.ArgumentParser:
-        own: argparse.ArgumentParser = kinds.add_parser(
+    for kind, text in KINDS.items():
+        one = kinds.add_parser(
             kind,
             help=text,
-            description=description,
+            description=f"Asks: {text}.",
             argument_default=argparse.SUPPRESS,
             formatter_class=Help,
         )
-        add_json(own)
-        return own
+        add_json(one)
+        (add_names if kind == "names" else add_place)(one, kind)
 
-    for kind, text in KINDS.items():
-        one = added(kind, text, f"At a place: {text}.")
-        if kind == "references":
-            one.add_argument(
-                "--no-declaration", action="store_true", help="without the declaration itself"
-            )
-        if kind == "definition":
-            add_by_name(one)
-        one.add_argument("file", metavar="FILE")
-        one.add_argument("line", metavar="LINE", type=int)
-        one.add_argument("column", metavar="COLUMN", type=int)
-    add_names(
-        added(
-            "names",
-            "the tags of a name",
-            "The tags of a name, or those whose names begin with a text.",
+
+def add_place(parser: argparse.ArgumentParser, kind: str) -> None:
+    """The words of a question at a place."""
+    if kind == "references":
+        parser.add_argument(
+            "--no-declaration", action="store_true", help="without the declaration itself"
         )
-    )
+    if kind == "definition":
+        add_by_name(parser)
+    parser.add_argument("file", metavar="FILE")
+    parser.add_argument("line", metavar="LINE", type=int)
+    parser.add_argument("column", metavar="COLUMN", type=int)
 
 
-def add_names(parser: argparse.ArgumentParser) -> None:
+def add_names(parser: argparse.ArgumentParser, _: str) -> None:
     """The words of `ask names`."""
     parser.add_argument(
         "--all-projects",
@@ -244,10 +243,9 @@ def filled(parser: argparse.ArgumentParser, words: list[str]) -> list[str]:
     first, or in the second place with no CODENAV_URL. So of a project that is called as a WHAT the
     URL is needed."""
     at = first_place(parser, words)
-    kinds = (*KINDS, "names")
-    if words[at : at + 1] and words[at] in kinds:
+    if words[at : at + 1] and words[at] in KINDS:
         return [*words[:at], "", "", *words[at:]]
-    if words[at + 1 : at + 2] and words[at + 1] in kinds and "://" not in words[at]:
+    if words[at + 1 : at + 2] and words[at + 1] in KINDS and "://" not in words[at]:
         return [*words[:at], os.environ.get("CODENAV_URL", ""), *words[at:]]
     return words
 

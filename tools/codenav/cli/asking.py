@@ -35,24 +35,16 @@ class Asking:
 
 def add_asking(parser: argparse.ArgumentParser, without_tags: str = "") -> None:
     """Adds the options, with what is said of a call without --tags."""
-    parser.add_argument(
-        "--map",
-        action="append",
-        metavar="URI=FOLDER",
-        help="documents below URI are the files of FOLDER",
-    )
-    parser.add_argument(
-        "--tags",
-        action="append",
-        metavar="PROJECT=FOLDER",
-        help=f"the tags file of PROJECT was made in FOLDER{without_tags}",
-    )
-    parser.add_argument(
-        "--revision",
-        action="append",
-        metavar="REV",
-        help="the git revision that was indexed: positions are mapped between its texts and today's; PROJECT=REV for another project",
-    )
+    for name, value, text in (
+        ("--map", "URI=FOLDER", "documents below URI are the files of FOLDER"),
+        ("--tags", "PROJECT=FOLDER", f"the tags file of PROJECT was made in FOLDER{without_tags}"),
+        (
+            "--revision",
+            "REV",
+            "the git revision that was indexed: positions are mapped between its texts and today's; PROJECT=REV for another project",
+        ),
+    ):
+        parser.add_argument(name, action="append", metavar=value, help=text)
     parser.add_argument(
         "--indexed",
         metavar="FOLDER",

@@ -12,7 +12,7 @@ from codenav.cli.command import Command
 from codenav.cli.options import URL_HELP, add_words, url_in
 from codenav.cli.show import Shown
 from codenav.faults import BadCall
-from codenav.settings.found import FILE, nearest, settings_by
+from codenav.settings.found import FILE, settings_by
 
 FORM = "[[URL] PROJECT] FOLDER"
 
@@ -55,7 +55,7 @@ def browser_of(call: BrowseCall) -> Browser:
         raise BadCall(f"it takes {FORM}")
     folder, project = Folder(words[-1]), words[0] if words[1:] else ""
     given = call.settings(url, project, folder.given)
-    settings = settings_by(given, nearest(folder.given), f"above {folder.given}")
+    settings = settings_by(given, folder.given)
     settings.sources()
     return Browser(folder, settings, call.search, call.by_name)
 

@@ -5,52 +5,41 @@ import importlib
 import os
 import signal
 import sys
-from typing import Any, Callable, NamedTuple, NoReturn, Optional
+from typing import TYPE_CHECKING, Any, NamedTuple, NoReturn, Optional, cast
 
 from codenav import VERSION
 from codenav.cli.ends import raise_signal, status_of
 from codenav.faults import BadCall
-from codenav.program import NONE, WORDS, Program
+
+if TYPE_CHECKING:
+    from codenav.cli.command import Command
 
 
 class Tool(NamedTuple):
-    """A tool: its module, what it does, and the name of its `Command` there; without one the
-    module's `main` is called, with what stands before the words."""
+    """A tool: its module in `cli`, which has its `Command` by the word's name, and what it does."""
 
     module: str
     text: str
-    first: tuple[str, ...] = ()
-    command: str = ""
 
 
 PACKAGES = {"google": "python3-protobuf"}
 TOOLS = {
-    "publish": Tool(
-        "cli.publish",
-        "from a checkout to answers: index, prepare, check, upload",
-        command="PUBLISH",
-    ),
-    "prepare": Tool(
-        "cli.prepare", "make a dump that the server takes of an indexer's", command="PREPARE"
-    ),
-    "upload": Tool("cli.upload", "upload dumps, tags files or a set", command="UPLOAD"),
-    "rebalance": Tool("cli.rebalance", "put kept sets where they belong", command="REBALANCE"),
-    "list": Tool("cli.projects", "list the projects of a server", command="LIST"),
-    "remove": Tool("cli.projects", "remove a project", command="REMOVE"),
-    "ask": Tool("cli.ask", "ask what is at a place, or for a name", command="ASK"),
-    "lsp": Tool("cli.lsp", "serve an editor by the Language Server Protocol", command="LSP"),
-    "browse": Tool(
-        "cli.browse", "show a folder's files as web pages with answers", command="BROWSE"
-    ),
-    "why": Tool("cli.explain", "say of a dump why an answer is what it is", command="WHY"),
-    "explain": Tool(
-        "cli.explain", "say what is wrong with a dump that is refused", command="EXPLAIN"
-    ),
-    "supervise": Tool("cli.service", "keep a server running over a folder", command="SUPERVISE"),
-    "turn": Tool("cli.service", "start a service's server anew, losing no request", command="TURN"),
-    "backup": Tool("cli.service", "copy a service's database while it runs", command="BACKUP"),
-    "restore": Tool("cli.service", "put a copy in a service's database's place", command="RESTORE"),
-    "try-it": Tool("cli.try_it", "try the whole way, on a demo", command="TRY_IT"),
+    "publish": Tool("publish", "from a checkout to answers: index, prepare, check, upload"),
+    "prepare": Tool("prepare", "make a dump that the server takes of an indexer's"),
+    "upload": Tool("upload", "upload dumps, tags files or a set"),
+    "rebalance": Tool("rebalance", "put kept sets where they belong"),
+    "list": Tool("projects", "list the projects of a server"),
+    "remove": Tool("projects", "remove a project"),
+    "ask": Tool("ask", "ask what is at a place, or for a name"),
+    "lsp": Tool("lsp", "serve an editor by the Language Server Protocol"),
+    "browse": Tool("browse", "show a folder's files as web pages with answers"),
+    "why": Tool("explain", "say of a dump why an answer is what it is"),
+    "explain": Tool("explain", "say what is wrong with a dump that is refused"),
+    "supervise": Tool("service", "keep a server running over a folder"),
+    "turn": Tool("service", "start a service's server anew, losing no request"),
+    "backup": Tool("service", "copy a service's database while it runs"),
+    "restore": Tool("service", "put a copy in a service's database's place"),
+    "try-it": Tool("try_it", "try the whole way, on a demo"),
 }
 OWN = {
     "serve": "serve a database on a port of 127.0.0.1",
@@ -63,8 +52,7 @@ OWN = {
 
 def usage() -> str:
     """How the command is called."""
-    texts = {name: tool.text for name, tool in TOOLS.items() if tool.text}
-    groups = {"tools:": texts, "the program:": OWN}
+    groups = {"tools:": {name: tool.text for name, tool in TOOLS.items()}, "the program:": OWN}
     rows = [
         row
         for title, group in groups.items()
@@ -77,6 +65,8 @@ def usage() -> str:
 
 def version() -> str:
     """Which tools and which program these are, and whether that's known to be proved."""
+    from codenav.program import NONE, Program  # here, for it takes `ask` long to load
+
     program = Program.found()
     if program is None:
         return f"codenav {VERSION}\n{NONE}"
@@ -85,30 +75,25 @@ def version() -> str:
     return f"codenav {VERSION}\nthe program {said[-1] if said else '?'}, {proved}: {program.path}"
 
 
-def module_of(name: str) -> Any:
-    """The module of a tool. Raises BadCall where it needs a package that isn't installed."""
+def command_of(name: str) -> "Command[Any]":
+    """A tool. Raises BadCall where it needs a package that isn't installed."""
     try:
-        return importlib.import_module(f"codenav.{TOOLS[name].module}")
+        module = importlib.import_module(f"codenav.cli.{TOOLS[name].module}")
     except ModuleNotFoundError as fault:
         package = PACKAGES.get((fault.name or "").partition(".")[0])
         if package is None:
             raise
         raise BadCall(f"it needs Debian's {package}, which isn't installed") from None
-
-
-def main_of(name: str) -> Callable[[list[str]], int]:
-    """What a tool is called by. Raises BadCall."""
-    tool, module = TOOLS[name], module_of(name)
-    if tool.command:
-        return lambda words: int(getattr(module, tool.command).main(words))
-    return lambda words: int(module.main(*tool.first, words))
+    return cast("Command[Any]", getattr(module, name.upper().replace("-", "_")))
 
 
 def called(name: str, words: list[str]) -> int:
     """Calls a word. The program takes this process's place."""
-    if name in WORDS:
+    if name in OWN:
+        from codenav.program import Program
+
         os.execv(Program.needed().path, ["codenav", name, *words])
-    return main_of(name)(words)
+    return command_of(name).main(words)
 
 
 def main(words: Optional[list[str]] = None) -> int:
@@ -117,7 +102,7 @@ def main(words: Optional[list[str]] = None) -> int:
     if words[:1] in (["--help"], ["-h"], ["--version"], ["-V"]):
         print(version() if words[0] in ("--version", "-V") else usage())
         return 0
-    if not words or words[0] not in {*TOOLS, *WORDS}:
+    if not words or words[0] not in {*TOOLS, *OWN}:
         named = f"no word {words[0]!r}: " if words else ""
         print(f"codenav: {named}codenav --help lists the words", file=sys.stderr)
         return 2

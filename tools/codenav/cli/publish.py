@@ -6,7 +6,7 @@ import os
 import sys
 import tempfile
 from contextlib import contextmanager
-from dataclasses import dataclass, field
+from dataclasses import dataclass
 from typing import Any, Iterator, Optional, Sequence
 
 from codenav.cli.command import Command
@@ -34,43 +34,16 @@ KNOWN = "\n".join(
 
 
 @dataclass(slots=True)
-class PublishCall:
+class PublishCall(How):
     """What `publish` is told."""
 
-    index: str = ""
-    indexer: str = ""
-    dump: str = ""
-    no_index: bool = False
-    without: list[str] = field(default_factory=list)
-    no_tags: bool = False
-    profile: str = ""
-    program: Optional[str] = None
-    set: bool = False
     servers: str = ""
     servers_that_join: bool = False
-    revision: Optional[str] = None
     keep: Optional[str] = None
-    dry_run: bool = False
     write_settings: bool = False
     overwrite: bool = False
     json: bool = False
     words: Sequence[str] = ()
-
-    def how(self) -> How:
-        """How what is uploaded is made."""
-        return How(
-            self.index,
-            self.indexer,
-            self.dump,
-            self.no_index,
-            tuple(self.without),
-            self.no_tags,
-            self.profile,
-            self.program,
-            self.set,
-            self.revision,
-            self.dry_run,
-        )
 
 
 def add_publish(parser: argparse.ArgumentParser) -> None:
@@ -240,7 +213,7 @@ def run_publish(call: PublishCall) -> int:
     servers, path = servers_in(call.servers, folder), os.path.join(folder, FILE)
     target = target_at(url, project, servers, call.servers_that_join, call.set)
     with Shown(TOOL, True) as shows:
-        making, sent, settings = Making(folder, target, call.how(), shows), None, ""
+        making, sent, settings = Making(folder, target, call, shows), None, ""
         if not call.dry_run:
             target.reach()
         try:

@@ -10,10 +10,9 @@ from codenav.cli.command import Command
 from codenav.cli.options import URL_HELP, add_words, url_in
 from codenav.cli.publish import servers_in
 from codenav.cli.show import Shown
-from codenav.faults import BadCall
+from codenav.faults import BadCall, NoReply
 from codenav.names import server_of
-from codenav.sets.publish.rebalance import GRACE, rebalance
-from codenav.sets.publish.relocation import Lists
+from codenav.sets.publish.rebalance import GRACE, Lists, Relocation, rebalance
 from codenav.sets.ring import named_in_front, servers_of
 
 TOOL = "codenav rebalance"
@@ -84,19 +83,28 @@ def run_rebalance(call: RebalanceCall) -> int:
     if len(rest) != 1:
         raise BadCall("it takes [URL] FOLDER")
     lists = lists_of(call, url or os.environ.get("CODENAV_URL", ""))
-    put = rebalance(rest[0], lists, Shown(TOOL, True))
-    for fault in put.work.faults:
+    try:
+        with Shown(TOOL, True) as shows:
+            return finished(call, rebalance(rest[0], lists, shows))
+    except NoReply as fault:
+        raise BadCall(f"{fault}; nothing that is asked was lost: call again") from None
+
+
+def finished(call: RebalanceCall, work: Relocation) -> int:
+    """Says what was put; switches the front, where that's needed and a command was given, and
+    removes what is left."""
+    for fault in work.faults:
         print(f"{TOOL}: {fault}", file=sys.stderr)
-    steps = ", ".join(f"{what} of {len(names)}" for what, names in put.done.items())
-    print(f"sets {len(put.work.moving)}, put {steps}", flush=True)
-    if put.work.faults:
+    steps = ", ".join(f"{what} of {len(names)}" for what, names in work.done.items())
+    print(f"sets {len(work.moving)}, put {steps}", flush=True)
+    if work.faults:
         return 2
-    if not put.is_switched():
+    if not work.is_switched():
         if not call.switch:
-            print(f"switch {lists.front} to these servers, and call again")
+            print(f"switch {work.front.server} to these servers, and call again")
             return 0
-        put.switch(call.switch)
-    cleared = put.clear(call.grace)
+        work.switch(call.switch)
+    cleared = work.clear(call.grace)
     print(f"moved {cleared.moved}, removed {cleared.removed}")
     return 0
 

@@ -7,10 +7,9 @@ import subprocess
 import tempfile
 from dataclasses import dataclass
 
-from codenav.asking.by_name import BEGINNINGS
 from codenav.cli.command import Command
 from codenav.faults import Failed
-from codenav.program import TOP, Program, Running, build, free_port
+from codenav.program import TOP, Program, build
 
 DUMP, TAGS = "demo/crate.raw.lsif", "demo/crate.tags"
 REQUESTS, REPLIES = "demo/each_route.http", "demo/each_route.replies"
@@ -35,7 +34,6 @@ NOT_MAPPED = (
     "codenav ask: temperature: no revision is kept with its index; its places aren't mapped"
 )
 NO_DUMP = "D01 project has no dump: file:///src/tr/crate/src/lib.rs"
-SECONDS = 60
 
 
 @dataclass(slots=True)
@@ -47,12 +45,11 @@ class TryItCall:
 
 @dataclass(frozen=True)
 class Step:
-    """A call, the output and the status that it should have, and how many requests it makes."""
+    """A call, and the output and the status that it should have."""
 
     words: list[str]
     output: str
     status: int = 0
-    requests: int = 1
 
 
 def steps(url: str, dump: str) -> list[Step]:
@@ -62,12 +59,12 @@ def steps(url: str, dump: str) -> list[Step]:
     with open(os.path.join(TOP, TAGS), "rb") as lines:
         tagged = f'{{"accepted":"tags","count":{sum(1 for _ in lines)}}}'
     ask, project = ["ask", *MAP, url, "temperature"], [url, "temperature"]
-    upload = ["upload-lsif", "--retry", *project, dump]
+    upload = ["upload", "--retry", *project, dump]
     at_definition, uses = ":".join(AT_DEFINITION), ":".join(DEFINITION[1:])
 
     def asked(words: list[str], output: str) -> Step:
         # with the revision, which the dump doesn't keep
-        return Step([*ask, *words], f"{NOT_MAPPED}\n{output}", requests=2)
+        return Step([*ask, *words], f"{NOT_MAPPED}\n{output}")
 
     return [
         Step(upload, accepted),
@@ -75,12 +72,11 @@ def steps(url: str, dump: str) -> list[Step]:
         asked(DEFINITION, at_definition),
         asked(["references", *AT_DEFINITION], f"{uses}\n{at_definition}"),
         asked(["hover", *AT_DEFINITION], HOVER),
-        Step(["upload-tags", "--retry", *project, TAGS], tagged),
+        Step(["upload", "--retry", *project, TAGS], tagged),
         Step(["ask", "--tags", FOLDER, *project, "names", "is_warm"], TAG),
         Step(["list", url], "temperature: dump and tags"),
         Step(["remove", *project], "temperature: removed"),
-        # where there's no such project it asks for a set of that name and for tags too
-        Step([*ask, *DEFINITION], f"codenav ask: {NO_DUMP}", 2, requests=6 + len(BEGINNINGS)),
+        Step([*ask, *DEFINITION], f"codenav ask: {NO_DUMP}", 2),
         Step(upload, accepted),
         asked(DEFINITION, at_definition),
     ]
@@ -101,15 +97,6 @@ def run(words: list[str]) -> tuple[str, int]:
     return output, done.returncode
 
 
-def started(program: Program, port: int, requests: int) -> Running:
-    """A server in memory that listens, which ends after so many requests."""
-    words = ["serve", ":memory:", "--port", str(port), "--requests", str(requests)]
-    print(f"$ {shlex.join([program.path, *words])} &", flush=True)
-    server = program.serve(port=port, requests=requests)
-    print(f"listening on 127.0.0.1:{port}", flush=True)
-    return server
-
-
 def answered(program: Program) -> None:
     """Replays a request for each route. Raises Failed."""
     print(f"$ {shlex.join([program.path, 'replay', ':memory:', REQUESTS])}", flush=True)
@@ -125,21 +112,15 @@ def trial(program: Program, folder: str) -> int:
     should."""
     answered(program)
     dump = os.path.join(folder, "crate.lsif")
-    _, status = run(["prepare-lsif", DUMP, dump])
+    _, status = run(["prepare", DUMP, dump])
     if status != 0:
-        raise Failed(f"prepare-lsif ended with status {status}")
-    port = free_port()
-    todo = steps(f"http://127.0.0.1:{port}", dump)
-    with started(program, port, sum(step.requests for step in todo)) as server:
+        raise Failed(f"prepare ended with status {status}")
+    with program.serve() as server:
+        print(f"$ {shlex.join(map(str, server.process.args))} &")  # type: ignore[arg-type]
+        todo = steps(server.url, dump)
         for step in todo:
             if run(step.words) != (step.output, step.status):
                 raise Failed(f"that should have been, with status {step.status}: {step.output}")
-        try:
-            status = server.process.wait(SECONDS)
-        except subprocess.TimeoutExpired:
-            raise Failed("the server went on after its last request") from None
-        if status != 0:
-            raise Failed(f"the server ended with status {status}")
     return len(todo) + 1
 
 

@@ -225,18 +225,6 @@ class Bridge:
         ]
         return list({json.dumps(location): location for location in found}.values())
 
-    def definition(self, params: Any) -> list[Message]:
-        """Where it's defined."""
-        return self.locations("definition", params)
-
-    def declaration(self, params: Any) -> list[Message]:
-        """Where it's declared."""
-        return self.locations("declaration", params)
-
-    def implementation(self, params: Any) -> list[Message]:
-        """Where it's implemented."""
-        return self.locations("implementation", params)
-
     def references(self, params: Any) -> list[Message]:
         """Where it's used."""
         return self.locations(
@@ -271,10 +259,15 @@ class Bridge:
         return symbols
 
 
-QUERIES = {
-    "textDocument/definition": Bridge.definition,
-    "textDocument/declaration": Bridge.declaration,
-    "textDocument/implementation": Bridge.implementation,
+def locations_of(what: str) -> Callable[[Bridge, Any], Any]:
+    """What answers a query by places."""
+    return lambda bridge, params: bridge.locations(what, params)
+
+
+QUERIES: dict[str, Callable[[Bridge, Any], Any]] = {
+    "textDocument/definition": locations_of("definition"),
+    "textDocument/declaration": locations_of("declaration"),
+    "textDocument/implementation": locations_of("implementation"),
     "textDocument/references": Bridge.references,
     "textDocument/hover": Bridge.hover,
     "workspace/symbol": Bridge.symbols,

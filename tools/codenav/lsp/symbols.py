@@ -43,7 +43,7 @@ VARIABLE = 13
 
 def symbol(tag: dict[str, Any], place: Place, uri: str) -> Message:
     """A tag as the protocol has it."""
-    start = {"line": place.line, "character": place.character}
+    start = place.position()
     return {
         "name": tag["name"],
         "kind": SYMBOLS.get(tag["kind"], VARIABLE),

@@ -1,6 +1,6 @@
 """What is made of a checkout, and how."""
 
-from dataclasses import dataclass
+from dataclasses import dataclass, field
 from typing import Iterator, NamedTuple, Optional
 
 from codenav.faults import Fault
@@ -33,23 +33,23 @@ class Body(NamedTuple):
     profile: Optional[str]
 
 
-@dataclass(frozen=True)
+@dataclass(slots=True)
 class How:
     """How it's made: the dump by a shell's line that indexes, by a known indexer of a name, or from
     a file, or not at all, without documents of some patterns; `profile` is how it's read, empty
-    where the dump says; `program` checks. Nothing is asked of a server where it's `dry`."""
+    where the dump says; `program` checks. Nothing is asked of a server where it's a `dry_run`."""
 
     index: str = ""
     indexer: str = ""
     dump: str = ""
     no_index: bool = False
-    without: tuple[str, ...] = ()
+    without: list[str] = field(default_factory=list)
     no_tags: bool = False
     profile: str = ""
     program: Optional[str] = None
-    is_set: bool = False
+    set: bool = False
     revision: Optional[str] = None
-    dry: bool = False
+    dry_run: bool = False
 
 
 class Made(NamedTuple):

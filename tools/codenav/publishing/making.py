@@ -50,7 +50,7 @@ def profile_of(path: str) -> str:
     index that is split itself it isn't known."""
     if is_scip(path):
         return "2"
-    labels = [f'"{kind.result}"'.encode() for kind in KINDS if kind.profile == "2"]
+    labels = [f'"{kind.result}"'.encode() for kind in KINDS if not kind.is_of("1")]
     with open(path, "rb") as dump:
         return "2" if any(label in line for line in dump for label in labels) else "1"
 
@@ -69,7 +69,7 @@ class Making:
     def __init__(self, folder: str, target: Target, how: How, shows: Shows) -> None:
         """Looks which commit it's of, and says where that can't be known. Raises BadCall."""
         self.folder, self.target, self.how, self.shows = folder, target, how, shows
-        self.is_set, self.profile = how.is_set or target.is_set, how.profile
+        self.is_set, self.profile = how.set or target.is_set, how.profile
         self.where, self.outcome, self.left_out = uri_of(folder, []), Outcome(), list[Row]()
         self.recorded: Optional[Prepared] = None
         self.commit, fault = indexed_at(folder, how.revision)
@@ -146,7 +146,7 @@ class Making:
             if isinstance(source, Source):
                 profile = self.profile or "2"
                 options = Options(
-                    strip=True, without=self.how.without, reports=True, profile=profile
+                    strip=True, without=tuple(self.how.without), reports=True, profile=profile
                 )
                 outcome = prepare(source, out, options, self.shows).outcome
             elif self.how.without:
@@ -212,7 +212,7 @@ class Making:
         """Splits a dump or an index and the tags into the parts of a set, which keeps the cuts of
         the set on the server. Raises Refused."""
         name, maps = set_name(self.target.project), (map_words(self.where, self.folder),)
-        if not self.how.dry:
+        if not self.how.dry_run:
             fetch_cuts(Store(self.target.home), name, folder)
         options = SplitOptions(name, self.profile, self.commit, maps, tags, self.folder)
         with opened_dump(dump) as source:

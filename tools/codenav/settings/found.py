@@ -171,19 +171,20 @@ def servers_above(folder: str) -> list[str]:
     return list(found_in_file(path).get("servers", [])) if path else []
 
 
-def settings_by(given: Settings, path: Optional[str], at: str) -> Settings:
+def settings_by(given: Settings, folder: str) -> Settings:
     """What a command line says, whose server and project may be empty. Without a project it's that
-    of a file `.codenav.toml`, with what the file says of it besides; without a server it's that of
-    CODENAV_URL or of the file. `at` is where the file was looked for. Raises BadCall."""
+    of the nearest `.codenav.toml` of a folder and those above it, with what the file says of it
+    besides; without a server it's that of CODENAV_URL or of the file. Raises BadCall."""
+    path = nearest(folder)
     if given.project:
         server = given.server or os.environ.get("CODENAV_URL")
         if not server and path:
             server = found_in_file(path).get("server")
         if not server:
-            raise BadCall(f"no server: neither CODENAV_URL nor a {FILE} {at} has one")
+            raise BadCall(f"no server: neither CODENAV_URL nor a {FILE} above {folder} has one")
         return given._replace(server=server_of(server), project=name_of(given.project))
     if not path:
-        raise BadCall(f"no project, and no {FILE} {at} says one")
+        raise BadCall(f"no project, and no {FILE} above {folder} says one")
     own = settings_in(path)
     is_said = any("=" not in one for one in given.revisions)
     return Settings(

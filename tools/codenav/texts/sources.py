@@ -15,19 +15,23 @@ class Source(Protocol):
 
     def old_path(self, path: str) -> str:
         """The path that a file of today had."""
+        return path
 
     def new_path(self, path: str) -> str:
         """The path that a file has today."""
+        return path
 
     def text(self, path: str) -> str:
         """The text of a file, by the path that it had. Raises BadCall where there is none."""
 
     def end(self) -> None:
         """Ends what was started to read texts."""
+        return None
 
 
-class Folder:
-    """The texts that were indexed are those of a folder, of which another one has today's."""
+class Folder(Source):
+    """The texts that were indexed are those of a folder, of which another one has today's, by the
+    same names."""
 
     def __init__(self, folder: str, today: str) -> None:
         self.folder, self.today = os.path.realpath(folder), os.path.realpath(today)
@@ -35,23 +39,12 @@ class Folder:
         if not os.path.isdir(self.folder):
             raise BadCall(f"{folder}: not a folder")
 
-    def old_path(self, path: str) -> str:
-        """The path itself: names are the same in both folders."""
-        return path
-
-    def new_path(self, path: str) -> str:
-        """The path itself."""
-        return path
-
     def text(self, path: str) -> str:
         """The text of a file."""
         inside = os.path.relpath(os.path.realpath(path), self.today)
         if inside.split(os.sep)[0] == os.pardir:
             raise BadCall(f"{path}: not below {self.today}")
         return text_of(os.path.join(self.folder, inside))
-
-    def end(self) -> None:
-        """Ends nothing."""
 
 
 def sources_of(

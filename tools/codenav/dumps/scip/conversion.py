@@ -5,7 +5,7 @@ the global symbols and the largest document.
 
 A symbol has a resultSet, or where it occurs once the range itself has its results. Symbols that
 occur at one place together have a joint resultSet, with the definitions of each and a reference
-result that leads to each one's; docs/DECISIONS.md says how it's chained.
+result that leads to each one's; docs/inside/DECISIONS.md says how it's chained.
 """
 
 from dataclasses import replace

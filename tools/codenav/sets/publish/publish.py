@@ -10,7 +10,7 @@ import os
 import secrets
 import time
 from dataclasses import dataclass, field
-from typing import Iterable, Optional
+from typing import Iterable, Mapping, Optional, Sequence
 
 from codenav.faults import BadCall
 from codenav.names import shown_name
@@ -31,6 +31,9 @@ from codenav.sets.manifest import (
 from codenav.sets.publish.claim import MOST_LIVES, Claim, Late, after, claimed
 from codenav.sets.publish.store import Store
 
+Files = dict[str, str]
+"""The files of a project: its dump, its tags or both."""
+
 
 def content_of(path: str) -> bytes:
     """The bytes of a file."""
@@ -42,6 +45,14 @@ def parts_of(name: str, projects: Iterable[str]) -> list[str]:
     """The projects that have the form of a set's parts."""
     found = {project: PART.fullmatch(project) for project in sorted(projects)}
     return [project for project, match in found.items() if match and match["set"] == name]
+
+
+def remove_all(claim: Claim, store: Store, projects: Sequence[str]) -> int:
+    """Removes projects from a server; answers how many."""
+    for project in projects:
+        claim.renew()
+        store.remove(project)
+    return len(projects)
 
 
 @dataclass
@@ -122,30 +133,31 @@ class Publish:
     def remove_left(self, claim: Claim, there: dict[str, set[str]], old: Optional[Head]) -> None:
         """Removes parts of neither revision, which an interrupted publish left."""
         wanted = {*self.head.projects(), *(old.projects() if old else [])}
-        for project in parts_of(self.head.name, there):
-            if project not in wanted:
-                claim.renew()
-                self.store.remove(project)
-                self.report.removed += 1
+        left = [project for project in parts_of(self.head.name, there) if project not in wanted]
+        self.report.removed += remove_all(claim, self.store, left)
 
     def put_parts(self, claim: Claim, there: dict[str, set[str]]) -> None:
         """Puts the parts that aren't there."""
-        for project, files in self.files.items():
-            missing = [part for part in files if part not in there.get(project, ())]
-            bodies = self.bodies_of(project, files) if missing else {}
+        self.report.new += self.put_files(claim, self.store, self.files, there)
+
+    def put_files(
+        self, claim: Claim, store: Store, files: Mapping[str, Files], there: dict[str, set[str]]
+    ) -> int:
+        """Puts the files of projects that a server hasn't; answers of how many projects."""
+        count = 0
+        for project, own in files.items():
+            missing = [part for part in own if part not in there.get(project, ())]
+            bodies = self.bodies_of(project, own) if missing else {}
             for part in missing:
                 claim.renew()
-                key = secrets.token_hex(16)
-                self.store.put(project, part, bodies[part], key, self.profile(part))
-            self.report.new += bool(missing)
+                profile = self.head.profile if part == "lsif" else "1"
+                store.put(project, part, bodies[part], secrets.token_hex(16), profile)
+            count += bool(missing)
+        return count
 
-    def bodies_of(self, project: str, files: dict[str, str]) -> dict[str, bytes]:
+    def bodies_of(self, project: str, files: Files) -> dict[str, bytes]:
         """What the files of a part have."""
         return {part: content_of(path) for part, path in files.items()}
-
-    def profile(self, part: str) -> str:
-        """The profile that a part of a project is put with."""
-        return self.head.profile if part == "lsif" else "1"
 
     def put_manifest(self, old: Optional[Head]) -> None:
         """Puts the manifest, which is the switch; raises Late where another one came after the old
@@ -166,10 +178,8 @@ class Publish:
         before = set(old.projects() if old else ())
         if self.in_place_of_project and self.head.name in self.store.projects():
             self.store.remove(self.head.name)
-        for project in sorted(before - set(self.head.projects())):
-            claim.renew()
-            self.store.remove(project)
-            self.report.removed += 1
+        left = sorted(before - set(self.head.projects()))
+        self.report.removed += remove_all(claim, self.store, left)
 
 
 def fetch_cuts(store: Store, name: str, folder: str) -> None:
@@ -190,8 +200,6 @@ def remove_set(store: Store, name: str) -> int:
         return 0
     with claimed(store, name) as claim:
         store.remove(name + PARTS)
-        for project in parts_of(name, store.projects()):
-            claim.renew()
-            store.remove(project)
+        remove_all(claim, store, parts_of(name, store.projects()))
     store.remove(name + CLAIM)
     return len(head.parts)

@@ -7,7 +7,6 @@ before leaves the old revision answering everywhere, and the next one removes wh
 """
 
 import re
-import secrets
 from contextlib import contextmanager
 from dataclasses import dataclass, field
 from typing import Iterator, Optional
@@ -15,7 +14,7 @@ from typing import Iterator, Optional
 from codenav.faults import BadCall, NoReply
 from codenav.sets.manifest import CLAIM, PACKAGE, PARTS, SURFACE, Head, package_of
 from codenav.sets.publish.claim import Claim
-from codenav.sets.publish.publish import Publish
+from codenav.sets.publish.publish import Publish, remove_all
 from codenav.sets.publish.store import Store
 from codenav.sets.surface.made import surface_file
 
@@ -83,13 +82,9 @@ class Spread(Publish):
 
     def put_surface(self, claim: Claim, store: Store) -> None:
         """Puts the parts of the surface that a server is to have and hasn't."""
-        there, wanted = store.projects(), self.wanted(store)
-        for part in self.head.surface:
-            if part.project in wanted and part.project not in there:
-                claim.renew()
-                files = {"lsif": surface_file(self.surface, part.project)}
-                body = self.bodies_of(part.project, files)["lsif"]
-                store.put(part.project, "lsif", body, secrets.token_hex(16), self.head.profile)
+        there = store.projects()
+        files = {own: {"lsif": surface_file(self.surface, own)} for own in self.wanted(store)}
+        self.put_files(claim, store, files, there)
 
     def remove_old(self, claim: Claim, old: Optional[Head]) -> None:
         """Removes the old parts at the home, and those of the surface that aren't wanted on each
@@ -108,10 +103,10 @@ class Spread(Publish):
     def remove_others(self, claim: Claim, store: Store, ends: str, wanted: list[str]) -> None:
         """Removes the projects of the set with these ends from a server, but for some."""
         form = re.compile(f"{re.escape(self.head.name)}({ends})")
-        for project in sorted(store.projects()):
-            if form.fullmatch(project) and project not in wanted:
-                claim.renew()
-                store.remove(project)
+        left = [
+            one for one in sorted(store.projects()) if form.fullmatch(one) and one not in wanted
+        ]
+        remove_all(claim, store, left)
 
     @contextmanager
     def told(self, store: Store) -> Iterator[None]:
