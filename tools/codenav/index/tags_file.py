@@ -8,16 +8,17 @@ from collections import Counter
 from typing import Iterator, Optional
 
 from codenav.faults import BadCall
-from codenav.limits import MOST_BODY_BYTES, MOST_TAG_BYTES, MOST_TAGS
+from codenav.limits import MOST_BODY_BYTES, MOST_TAG_LINES
 
+MOST_LINE_BYTES = 65_536
 CONTROLS = re.compile(rb"[\x00-\x08\x0b-\x1f\x7f]")
 LEFT_OUT = {
-    "T01": f"longer than {MOST_TAG_BYTES} bytes",
+    "T01": "longer than 65536 bytes",
     "T02": "not UTF-8",
     "T03": "with a control character",
     "T04": "without a name, a file and an address",
-    "T11": f"over the {MOST_TAGS} lines that the server takes",
-    "H04": f"over the {MOST_BODY_BYTES} bytes that the server takes",
+    "T11": "over the 100000 lines that the server takes",
+    "H04": "over the 33554432 bytes that the server takes",
 }
 
 
@@ -50,7 +51,7 @@ def walked(folder: bytes) -> Iterator[bytes]:
 def fault_of(line: bytes, number: int, written: int) -> Optional[str]:
     """The code for which the server refuses a line that would be written as this number after so
     many bytes; None where there is none."""
-    if len(line) > MOST_TAG_BYTES:
+    if len(line) > MOST_LINE_BYTES:
         return "T01"
     try:
         line.decode()
@@ -61,7 +62,7 @@ def fault_of(line: bytes, number: int, written: int) -> Optional[str]:
     parts = line.split(b"\t", 2)
     if len(parts) < 3 or not parts[0] or not parts[1]:
         return "T04"
-    if number > MOST_TAGS:
+    if number > MOST_TAG_LINES:
         return "T11"
     return "H04" if written + len(line) + 1 > MOST_BODY_BYTES else None
 

@@ -9,7 +9,7 @@ from array import array
 from dataclasses import dataclass, field
 from hashlib import blake2b
 from itertools import pairwise
-from typing import Any, Iterator, Optional
+from typing import Any, Optional
 
 from codenav.addresses import folder_address
 from codenav.dumps.lsif.elements import Element, Id, Row, is_id, shard_of, span_of, targets_of
