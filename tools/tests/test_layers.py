@@ -29,8 +29,7 @@ LAYERS = {
 }
 IMPORTS = ""
 LONG = """
-dumps.prepare.rewriting
-dumps.tables.graph
+dumps.tables.reader
 """
 USES = ""
 
