@@ -42,9 +42,13 @@ ELSEWHERE = {
     *("init.lua", "settings.json", "languages.toml", ".codenav.toml"),
 }
 
-# ---- examples: the pages of each go on from one another, in one folder
+# ---- examples: the pages of each go on from one another, in a folder of a clone
 
-SESSIONS = [["README.md", "docs/TOOLS.md"], ["docs/API.md"]]
+SESSIONS = {
+    ("README.md", "docs/TOOLS.md"): ".",
+    ("docs/API.md",): ".",
+    ("docs/START.md",): "demo/crate",
+}
 NEEDED = {"rust-analyzer": "rust-web-analyzer", "ctags": "universal-ctags", "curl": "curl"}
 # What an indexer writes of a crate depends on what else is installed, so how much it is isn't
 # compared; nor is how long something took, or when.
@@ -162,8 +166,9 @@ class Session:
     """A checkout with the tools and the demo, in which examples run one after the other, on ports
     of their own, with the command `codenav` on the path."""
 
-    def __init__(self, program: str, folder: str) -> None:
+    def __init__(self, program: str, folder: str, called_in: str) -> None:
         self.folder = os.path.realpath(folder)
+        self.called_in = os.path.join(folder, called_in)
         self.ports = {port: str(free_port()) for port in ("8080", "8081", "8082", "8083")}
         self.running: list[subprocess.Popen[bytes]] = []
         for name in ("tools", "demo"):
@@ -202,7 +207,7 @@ class Session:
         command = command.replace("codenav browse ", f"codenav browse --port {self.ports['8081']} ")
         process = subprocess.Popen(
             ["bash", "-c", command if not example.stays() else f"exec {command}"],
-            cwd=self.folder,
+            cwd=self.called_in,
             env=self.environment,
             stdin=subprocess.DEVNULL,
             stdout=subprocess.PIPE,
@@ -265,8 +270,8 @@ class Pages(unittest.TestCase):
             for title in re.findall(r"^## (.*)$", text, re.MULTILINE)
             for word in title.split(", ")
         ]
-        called = [own.command for page in SESSIONS[0] for own in examples(page)]
-        called += [own.command for own in examples("docs/SCALE.md")]
+        pages = ["docs/SCALE.md", *(page for own in SESSIONS for page in own)]
+        called = [own.command for page in pages for own in examples(page)]
         for word in words:
             self.assertTrue(word in titles or f"| `codenav {word} " in text, word)
             self.assertTrue(any(f"codenav {word}" in command for command in called), word)
@@ -301,9 +306,9 @@ class Pages(unittest.TestCase):
         missing = [package for name, package in NEEDED.items() if not shutil.which(name)]
         if missing:
             self.skipTest(f"the examples need: apt-get install {' '.join(missing)}")
-        for pages in SESSIONS:
+        for pages, called_in in SESSIONS.items():
             with tempfile.TemporaryDirectory() as folder:
-                session = Session(built, folder)
+                session = Session(built, folder, called_in)
                 try:
                     for example in (found for page in pages for found in examples(page)):
                         if example.command.startswith(COMPILES):
