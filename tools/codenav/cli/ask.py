@@ -105,7 +105,7 @@ def answer_names(call: AskCall, settings: Settings) -> Answer:
         warn(said)
     lines = place_lines([place for _, place in named], call.utf16)
     return Answer(
-        {"tags": [{**tag, **found_at(tag, place)} for tag, place in named]},
+        {"tags": [{**tag, **found_at(tag, place, settings.maps)} for tag, place in named]},
         [f"{line}: {tag['name']}" for (tag, _), line in zip(named, lines)],
     )
 
