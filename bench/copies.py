@@ -3,15 +3,15 @@
 of IN OUT BYTES: copies of a dump with numbers as ids, or of a SCIP index, whose name ends with
 .scip, up to so many bytes, each with documents, ids and symbols of its own.
 
-joined OUT COPIES SHARE DUMP..: of each prepared dump so many copies, with addresses, keys and ids of
-its own, and a share of the references of later ones led to symbols of earlier ones, half of them to
-few symbols that many use. Each dump is read once, into texts in which the ids are left open; a copy
-fills them in.
+joined OUT COPIES SHARE DUMP..: of each prepared dump so many copies, with addresses, keys and ids
+of its own, and a share of the references of later ones led to symbols of earlier ones, half of them
+to few symbols that many use. Each dump is read once, into texts in which the ids are left open; a
+copy fills them in.
 
-implementations IN OUT: a SCIP index of rust-analyzer with what its symbols say and its relationships
-don't: which method of a trait each method of an `impl` block implements. A method that is
-implemented so is declared where the trait has it. So a dump that's made of it has implementations
-and declarations, for profile 2.
+implementations IN OUT: a SCIP index of rust-analyzer with what its symbols say and its
+relationships don't: which method of a trait each method of an `impl` block implements. A method
+that is implemented so is declared where the trait has it. So a dump that's made of it has
+implementations and declarations, for profile 2.
 """
 
 import argparse

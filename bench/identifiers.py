@@ -1,9 +1,7 @@
 """Asks a server for the definition at each identifier of crates, of dumps in two forms: how many
 are answered, how many by nothing but ranges over whole files, and how many not at all.
-
-usage: bench/identifiers.py PROGRAM CRATE=DUMP[,DUMP] ..
-       (CRATE is the crate's folder, at which the dumps' addresses are; each DUMP is a prepared one)
 """
+import argparse
 import os
 import sys
 from collections import Counter
@@ -35,12 +33,16 @@ def files_of(crate: str) -> list[str]:
 
 
 def main() -> int:
-    """Reads the command line."""
-    if len(sys.argv) < 3:
-        sys.exit(__doc__)
-    with Program(sys.argv[1]).serve() as server:
+    options = argparse.ArgumentParser(
+        description=__doc__, formatter_class=argparse.RawDescriptionHelpFormatter
+    )
+    options.add_argument("program", help="the built one")
+    each = "CRATE is the crate's folder, at which the dumps' addresses are; each DUMP is prepared"
+    options.add_argument("crates", nargs="+", metavar="CRATE=DUMP[,DUMP]", help=each)
+    given = options.parse_args()
+    with Program(given.program).serve() as server:
         url = server.url
-        for pair in sys.argv[2:]:
+        for pair in given.crates:
             crate, _, dumps = pair.partition("=")
             for number, dump in enumerate(dumps.split(",")):
                 project = f"p{number}"

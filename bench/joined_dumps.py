@@ -1,7 +1,7 @@
 """Makes large dumps that are joined with each other: each is made of the same smaller ones as
-`copies.py joined` makes one, under names of its own, and a share of its references leads to symbols of
-the next dump, the last one's to the first. There it imports a key that the other one exports, for
-one result alone: of others a set hides the key.
+`copies.py joined` makes one, under names of its own, and a share of its references leads to symbols
+of the next dump, the last one's to the first. There it imports a key that the other one exports,
+for one result alone: of others a set hides the key.
 
 The text is made once, with names that begin by the number of the dump, so that each dump is a copy
 of it with other numbers.

@@ -3,14 +3,13 @@ published as sets over several servers, each at the home that the front's hash g
 surface to all other servers, or to those alone that have a set with a package in common.
 
 How many surfaces and elements are sent follows from the packages: it's said for some numbers of
-servers, each the mean of so many addresses, since the hash is of these. Then it's tried: a sample of
-places in each dump is asked for its definition, references and hover, of one server with all, and of
-several without surfaces, with those that join and with all. Answers 0 where the latter two answer
-as the one server.
-
-usage: bench/joining_servers.py PROGRAM SERVERS DUMP DUMP ..   (prepared, of profile 1)
+servers, each the mean of so many addresses, since the hash is of these. Then it's tried: a sample
+of places in each dump is asked for its definition, references and hover, of one server with all,
+and of several without surfaces, with those that join and with all. Answers 0 where the latter two
+answer as the one server.
 """
 
+import argparse
 import os
 import random
 import sys
@@ -209,6 +208,12 @@ def main(program: str, number: int, dumps: list[str]) -> int:
 
 
 if __name__ == "__main__":
-    if len(sys.argv) < 5:
-        sys.exit("usage: bench/joining_servers.py PROGRAM SERVERS DUMP DUMP ..")
-    sys.exit(main(sys.argv[1], int(sys.argv[2]), sys.argv[3:]))
+    options = argparse.ArgumentParser(
+        description=__doc__, formatter_class=argparse.RawDescriptionHelpFormatter
+    )
+    options.add_argument("program", help="the built one")
+    options.add_argument("servers", type=int, help="how many are tried")
+    dumps = "prepared, of profile 1; two at least"
+    options.add_argument("dumps", nargs="+", metavar="DUMP", help=dumps)
+    given = options.parse_args()
+    sys.exit(main(given.program, given.servers, given.dumps))

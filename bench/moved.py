@@ -1,4 +1,5 @@
-"""Measures the map between an old text and a new one (tools/codenav/texts/moved), each part by itself:
+"""Measures the map between an old text and a new one (tools/codenav/texts/moved), each part by
+itself:
 
   made [SEEDS]     made edits with known truth: 26 kinds over files of Debian's packages; words that
                    lead to a wrong place, in a million
@@ -8,11 +9,11 @@
                    hard; beside `git diff --histogram` of the same files
   inverse OLD NEW  whether each mapped word of two folders leads back to where it began
 
-usage: /usr/bin/python3 bench/moved.py PART ..
 `made` reads files of Debian's librust-regex-dev, librust-url-dev, librust-serde-json-dev and
 librust-itoa-dev, of Python's library, of npm, and what of them is there.
 """
 
+import argparse
 import ast
 import glob
 import os
@@ -20,7 +21,6 @@ import random
 import re
 import resource
 import subprocess
-import sys
 import tempfile
 import time
 from collections import Counter
@@ -67,7 +67,7 @@ def read(path: str) -> str:
 # Made edits
 
 
-def made(seeds: int = 4) -> None:
+def made(seeds: int) -> None:
     """Prints what became of the words of made edits, kind by kind."""
     texts = [read(path).replace("\r\n", "\n") for path in MADE if os.path.exists(path)]
     print(
@@ -328,17 +328,26 @@ def git(old: str, new: str) -> float:
         return after.ru_utime + after.ru_stime - before.ru_utime - before.ru_stime
 
 
-def main(words: list[str]) -> None:
+def main() -> None:
     """Runs a part."""
-    if words[:1] == ["made"] and len(words) < 3:
-        made(*map(int, words[1:]))
-    elif words == ["times"]:
+    options = argparse.ArgumentParser(
+        description=__doc__, formatter_class=argparse.RawDescriptionHelpFormatter
+    )
+    parts = options.add_subparsers(required=True, dest="part")
+    parts.add_parser("made").add_argument("seeds", nargs="?", type=int, default=4)
+    parts.add_parser("times")
+    for name in "real", "inverse":
+        parts.add_parser(name).add_argument("folders", nargs="+", metavar="OLD NEW")
+    given = options.parse_args()
+    if given.part == "made":
+        made(given.seeds)
+    elif given.part == "times":
         times()
-    elif words[:1] in (["real"], ["inverse"]) and len(words) > 2 and len(words) % 2:
-        (real if words[0] == "real" else inverse)(words[1:])
+    elif len(given.folders) % 2:
+        options.error("each folder of before has one of after behind it")
     else:
-        sys.exit(__doc__)
+        (real if given.part == "real" else inverse)(given.folders)
 
 
 if __name__ == "__main__":
-    main(sys.argv[1:])
+    main()

@@ -1,9 +1,6 @@
 """Says what takes long in a proof: runs a command, watches which process closes which proof file,
 and prints the seconds before each.
 
-usage: bench/proof_times.py [COUNT] COMMAND..
-       (default the 40 that took longest; as root, on Linux)
-
 A check writes a file of each step of each function (`NAME.Lts`, `NAME.Proof`, `NAME.Tie`) when the
 step is done, so the time since the file before, of the same process, is what the step took; with
 several jobs each process is looked at by itself. What a check has kept it doesn't write again.
@@ -12,6 +9,7 @@ write. All processes of the machine are looked at, so let nothing else prove mea
 crate's second `rt` waits for the first one.
 """
 
+import argparse
 import ctypes
 import os
 import re
@@ -69,20 +67,23 @@ def read(events: int, seconds: defaultdict[str, float]) -> NoReturn:
                 last[process] = now
 
 
-def main(words: list[str]) -> int:
-    count = int(words.pop(0)) if words and words[0].isdigit() else 40
-    if not words:
-        sys.exit(__doc__)
+def main() -> int:
+    options = argparse.ArgumentParser(
+        description=__doc__, formatter_class=argparse.RawDescriptionHelpFormatter
+    )
+    options.add_argument("--count", type=int, default=40, help="of those that took longest; 40")
+    options.add_argument("command", nargs=argparse.REMAINDER, help="as root, on Linux")
+    given = options.parse_args()
     seconds: defaultdict[str, float] = defaultdict(float)
     threading.Thread(target=read, args=(watch(), seconds), daemon=True).start()
-    status = subprocess.run(words).returncode
+    status = subprocess.run(given.command).returncode
     time.sleep(1)
     longest = sorted(seconds.items(), key=lambda it: it[1], reverse=True)
-    for name, taken in longest[:count]:
+    for name, taken in longest[: given.count]:
         print(f"{taken:6.1f} {name}")
     print(f"{sum(seconds.values()):6.1f} in all")
     return status
 
 
 if __name__ == "__main__":
-    sys.exit(main(sys.argv[1:]))
+    sys.exit(main())

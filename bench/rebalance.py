@@ -3,12 +3,12 @@ counts the answers that are wrong and the questions that fail, by both fronts, a
 server is filled again.
 
 Each question is one that bench/proxy.py asks. What's right is the answer of one server that has
-everything. Half of the clients know nothing before each question, as `ask` does; the others keep the
-manifests that they read, as an editor does.
-usage: bench/rebalance.py [PROGRAM [lua|haproxy]]  (the built program, without it the one of this
-       clone, and the front, without it both; needs Debian's nginx, libnginx-mod-http-lua and haproxy)
+everything. Half of the clients know nothing before each question, as `ask` does; the others keep
+the manifests that they read, as an editor does. It needs Debian's nginx, libnginx-mod-http-lua and
+haproxy.
 """
 
+import argparse
 import os
 import pathlib
 import random
@@ -39,7 +39,6 @@ MANY = 8
 SECONDS = 60
 # how long a front holds a request while its server is away: 600 s in packaging/front
 LONGEST = 10
-TOP = pathlib.Path(__file__).resolve().parent.parent
 
 
 class Question:
@@ -249,14 +248,20 @@ def run(program: str, folder: str, kind: str) -> None:
         lose(trial, questions)
 
 
-def main(program: str = str(TOP / "codenav"), *kinds: str) -> int:
+def main() -> int:
     """Answers 0 where each answer was as it should be."""
+    options = argparse.ArgumentParser(
+        description=__doc__, formatter_class=argparse.RawDescriptionHelpFormatter
+    )
+    options.add_argument("program", help="the built one")
+    options.add_argument("front", nargs="?", choices=KINDS, help="one alone; both without it")
+    given = options.parse_args()
     try:
-        for kind in kinds or KINDS:
+        for kind in [given.front] if given.front else KINDS:
             if why := lacking(kind):
                 raise Failed(why)
             with tempfile.TemporaryDirectory() as folder:
-                run(program, folder, kind)
+                run(given.program, folder, kind)
     except (Failed, OSError) as fault:
         print(f"rebalance: {fault}", file=sys.stderr)
         return 1
@@ -264,4 +269,4 @@ def main(program: str = str(TOP / "codenav"), *kinds: str) -> int:
 
 
 if __name__ == "__main__":
-    sys.exit(main(*sys.argv[1:]))
+    sys.exit(main())

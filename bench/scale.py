@@ -1,5 +1,5 @@
-"""Measures what one `codenav serve` holds, over loopback, in one run, for an index in memory and for
-one in a file.
+"""Measures what one `codenav serve` holds, over loopback, in one run, for an index in memory and
+for one in a file.
 
 What queries cost, one after the other, beside an nginx with a fixed reply; what puts cost that make
 a project, and those in the place of a dump, beside `codenav check-lsif` of the same dump; and what

@@ -1,5 +1,5 @@
-"""Measures splitting, and shows that it does as it should. Prints for each call its status, the time,
-the processor time and the memory, and what it says last.
+"""Measures splitting, and shows that it does as it should. Prints for each call its status, the
+time, the processor time and the memory, and what it says last.
 
 index: SCIP indexes of as many symbols and more and more occurrences, and the dumps that are made of
 them. The parts have to be equal. It needs python3-protobuf.

@@ -9,17 +9,14 @@ are the first one's with other names.
 
 Prints the sizes of sets and surfaces, what each stage took, and what a definition and references
 take on both.
-
-usage: bench/ten_servers.py PROGRAM SERVERS COPIES DUMP DUMP ..   (prepared, of profile 1; each set is
-       so many copies of them)
 """
 
+import argparse
 import multiprocessing
 import os
 import re
 import resource
 import secrets
-import sys
 import tempfile
 import time
 from concurrent.futures import ProcessPoolExecutor
@@ -203,7 +200,13 @@ def measured(program: str, count: int, copies: int, dumps: list[str], folder: st
 
 
 if __name__ == "__main__":
-    if len(sys.argv) < 5:
-        sys.exit("usage: bench/ten_servers.py PROGRAM SERVERS COPIES DUMP DUMP ..")
+    options = argparse.ArgumentParser(
+        description=__doc__, formatter_class=argparse.RawDescriptionHelpFormatter
+    )
+    options.add_argument("program", help="the built one")
+    options.add_argument("servers", type=int, help="as many sets")
+    options.add_argument("copies", type=int, help="of each dump, of which a set is made")
+    options.add_argument("dumps", nargs="+", metavar="DUMP", help="prepared, of profile 1")
+    given = options.parse_args()
     with tempfile.TemporaryDirectory() as own_folder:
-        measured(sys.argv[1], int(sys.argv[2]), int(sys.argv[3]), sys.argv[4:], own_folder)
+        measured(given.program, given.servers, given.copies, given.dumps, own_folder)

@@ -2,10 +2,10 @@
 """Tries the edits that the check must refuse, those of edits/NAME beside those of
 crates/NAME/must-fail, in batches, and prints what refused each.
 
-A batch has edits of different functions. It's applied to a copy of the crate, and the functions that
-it changes are checked with what they call (`rattle check --only`), over what the batches before it
-proved: each must be among those that aren't proved. An edit outside functions has a batch of its
-own, in which the function that it names isn't proved, or something isn't.
+A batch has edits of different functions. It's applied to a copy of the crate, and the functions
+that it changes are checked with what they call (`rattle check --only`), over what the batches
+before it proved: each must be among those that aren't proved. An edit outside functions has a batch
+of its own, in which the function that it names isn't proved, or something isn't.
 """
 
 import argparse

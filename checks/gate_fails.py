@@ -1,5 +1,5 @@
-"""Shows that the gate fails where it should, for each part of checks/beside.py, and for a wrong body
-that is proved.
+"""Shows that the gate fails where it should, for each part of checks/beside.py, and for a wrong
+body that is proved.
 
 Breaks one thing that the part checks, and asks that this part fails; unbroken, each must pass.
 

@@ -1,5 +1,5 @@
-"""Asks of the built program what only its runs show: what each call prints, and its status; the line
-and the status of each fault; and how long a connection may take whose client is slow.
+"""Asks of the built program what only its runs show: what each call prints, and its status; the
+line and the status of each fault; and how long a connection may take whose client is slow.
 
 It takes some two minutes, most of them of waiting.
 """

@@ -1,5 +1,5 @@
-"""What the checks share: a server whose every step has a time limit, and uploads that say which they
-are."""
+"""What the checks share: a server whose every step has a time limit, and uploads that say which
+they are."""
 
 import json
 import socket

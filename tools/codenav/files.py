@@ -2,6 +2,7 @@
 
 import io
 import os
+import stat
 import sys
 from contextlib import contextmanager
 from typing import Any, BinaryIO, Iterator, Union
@@ -38,28 +39,31 @@ def opened(name: str, file: Union[str, int], mode: str) -> BinaryIO:
 
 @contextmanager
 def whole_file(target: str) -> Iterator[BinaryIO]:
-    """A file to write: a new one beside the target, which takes its place when it's whole, so that
-    no half of it is ever there. The standard output, for `-`, and a target that is no file, as a
-    pipe, are written themselves. What can't be written is an OSError with the target as it was
-    given."""
+    """A file to write: a new one beside the target, which takes its place and its mode when it's
+    whole, so that no half of it is ever there. The standard output, for `-`, and a target that is
+    no file, as a pipe, are written themselves. What can't be written is an OSError with the target
+    as it was given."""
     if target == "-":
         with of_file("standard output"):
             sys.stdout.flush()
         with opened("standard output", sys.stdout.fileno(), "wb") as out:
             yield out
         return
-    if os.path.exists(target) and not os.path.isfile(target):
+    is_there = os.path.exists(target)
+    if is_there and not os.path.isfile(target):
         with opened(target, target, "wb") as out:
             yield out
         return
     whole = os.path.realpath(target)
-    new = f"{whole}.{os.getpid()}.new"
+    new = f"{whole}.{os.urandom(8).hex()}.new"
+    file = opened(target, new, "xb")
     try:
-        with opened(target, new, "xb") as out:
+        with file as out:
             yield out
         with of_file(target):
+            if is_there:
+                os.chmod(new, stat.S_IMODE(os.stat(whole).st_mode))
             os.replace(new, whole)
     except BaseException:
-        if os.path.exists(new):
-            os.unlink(new)
+        os.unlink(new)
         raise

@@ -1,10 +1,11 @@
-"""The limits of the server for a dump."""
+"""The limits of the server for a dump, and for a tags file, whose body may be as long."""
 
 from codenav.outcome import Excess
 
 MOST_ELEMENTS = 100_000
 MOST_BODY_BYTES = 33_554_432
 MOST_LINE_BYTES = 1_048_576
+MOST_TAG_LINES = 100_000
 
 
 def excesses(elements: int, body_bytes: int, longest_line: int) -> list[Excess]:

@@ -14,7 +14,6 @@ from typing import Iterator, NamedTuple, Optional
 from codenav.faults import BadCall, Failed
 
 TOP = str(Path(__file__).resolve().parents[2])
-WORDS = ("check-lsif", "check-tags", "serve", "replay", "migrate")
 # where a clone has the program that it built, and a package its own, from its prefix; both are proved
 BUILT, PACKAGED = "crates/codenav/out/codenav", "libexec/codenav/codenav"
 REQUESTS = 1_000_000
@@ -98,10 +97,9 @@ class Said(NamedTuple):
 
 @dataclass(frozen=True)
 class Program:
-    """The program at a path, which the words before it start."""
+    """The program at a path."""
 
     path: str
-    before: tuple[str, ...] = ()
 
     @staticmethod
     def found(given: Optional[str] = None) -> Optional["Program"]:
@@ -132,7 +130,7 @@ class Program:
         """A call that ends by itself, without input. Raises BadCall where it can't be made."""
         try:
             done = subprocess.run(
-                [*self.before, self.path, *words],
+                [self.path, *words],
                 stdin=subprocess.DEVNULL,
                 capture_output=True,
                 check=False,
@@ -156,7 +154,7 @@ class Program:
     ) -> Running:
         """A server that may not listen yet. One of a service ends with this process, and its
         standard error is kept."""
-        words = [*self.before, self.path, "serve", database]
+        words = [self.path, "serve", database]
         process = subprocess.Popen(
             [*words, "--port", str(port), "--requests", str(requests)],
             stdin=subprocess.DEVNULL,

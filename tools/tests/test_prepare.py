@@ -62,7 +62,7 @@ class Prepare(unittest.TestCase):
         with open(self.out, "wb") as file:
             file.write(b"before")
         with mock.patch.object(limits, "MOST_ELEMENTS", 150):
-            said = "OUT: too large for one project, and no folder for a set\n"
+            said = "OUT: the set that it becomes is a folder, and this is none\n"
             self.assertEqual(self.called(RAW, self.out), (2, f"codenav prepare: {said}"))
             status, lines = self.called(RAW, os.devnull)
             self.assertEqual((status, "elements, the server takes 150 (L20)" in lines), (1, True))
@@ -74,7 +74,7 @@ class Prepare(unittest.TestCase):
         self.assertEqual((status, "longest line, the server takes 150 (L01)" in lines), (1, True))
         self.assertGreater(os.path.getsize(self.out), 9_000)
         self.assertEqual(
-            self.called("--set", RAW, "-"), (2, "codenav prepare: -: a set is a folder\n")
+            self.called("--set", RAW, "-"), (2, f"codenav prepare: {said.replace('OUT', '-')}")
         )
 
     def test_a_packed_index(self) -> None:

@@ -136,7 +136,7 @@ class Proxies(OnServer):
         ]
 
     def each(self, server: str, refusals: dict[str, str], **variables: str) -> None:
-        """Calls each tool by a proxy: those that `refusals` has a line for end with it, and the
+        """Calls each tool by a proxy: those whose last word `refusals` has a line for end with it, and the
         others as without a proxy."""
         every = refusals.get("", "")
         for tool, main, words, status in self.tools():
@@ -145,7 +145,7 @@ class Proxies(OnServer):
                 options, words = [*options, *words[:2]], words[2:]
             with self.subTest(tool, server=server), environment(**variables):
                 found = called(main, *options, server, *words)
-                line = refusals.get(tool, every)
+                line = refusals.get("".join(words[-1:]), every)
                 if line:
                     self.assertEqual((found[0], found[1], found[2].count("\n")), (2, "", 1), found)
                     self.assertIn(f"{tool}: {server}: not a reply of codenav, {line}", found[2])
@@ -166,7 +166,7 @@ class Proxies(OnServer):
                 self.assertEqual(said, (2, "", refused))
             self.each(login, {"": NOT_TAKEN}, CODENAV_USER="me:no", **trusted)
             self.each(login, {}, CODENAV_USER="me:secret", **trusted)
-            self.each(f"http://127.0.0.1:{ports['small']}", {"codenav upload": TOO_LARGE})
+            self.each(f"http://127.0.0.1:{ports['small']}", {self.dump: TOO_LARGE})
             none = f"status {status}, the proxy has no answer of codenav"
             self.each(f"http://127.0.0.1:{ports['down']}", {"": none})
             with self.subTest("publish", proxy=name), environment(CODENAV_TOKEN="", **trusted):

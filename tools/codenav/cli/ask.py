@@ -3,6 +3,7 @@
 import argparse
 import json
 import os
+from functools import lru_cache
 from typing import Any, NamedTuple, Optional
 
 from codenav.asking.by_name import found_at, has_dump, has_tags
@@ -16,7 +17,7 @@ from codenav.client.fetch import fetch_from
 from codenav.client.http import SECONDS
 from codenav.faults import NoReply
 from codenav.settings.found import FILE, Settings, settings_by
-from codenav.texts.decoded import counts_bytes
+from codenav.texts.decoded import counts_bytes, lines_of
 from codenav.texts.hovers import hover_text
 from codenav.texts.places import Maps, Place, asked_path, character_at, path_of, place_line, uri_of
 from codenav.texts.today import NotThere, Today, is_whole_file, position_of
@@ -29,6 +30,7 @@ KINDS = {
     "hover": "what is said of it",
     "names": "the tags of a name, or those whose names begin with a text",
 }
+MOST_FILES = 8
 warn = Shown("codenav ask").warn
 
 
@@ -83,6 +85,12 @@ def tags_of(call: AskCall, settings: Settings, project: Project) -> list[Tag]:
     return tags
 
 
+def place_lines(places: list[Place], utf16: bool) -> list[str]:
+    """What is printed of places; the files that were read last are kept."""
+    read = lru_cache(MOST_FILES)(lines_of)
+    return [place_line(place, utf16, read) for place in places]
+
+
 def answer_names(call: AskCall, settings: Settings) -> Answer:
     """The names that a call asks for. Raises NoReply."""
     project, names = project_of(settings), Names()
@@ -95,9 +103,10 @@ def answer_names(call: AskCall, settings: Settings) -> Answer:
         project.today.end()
     if said := names.said():
         warn(said)
+    lines = place_lines([place for _, place in named], call.utf16)
     return Answer(
-        {"tags": [{**tag, **found_at(tag, place)} for tag, place in named]},
-        [f"{place_line(place, call.utf16)}: {tag['name']}" for tag, place in named],
+        {"tags": [{**tag, **found_at(tag, place, settings.maps)} for tag, place in named]},
+        [f"{line}: {tag['name']}" for (tag, _), line in zip(named, lines)],
     )
 
 
@@ -137,10 +146,10 @@ def answer_at(call: AskCall, settings: Settings) -> Answer:
         return Answer({"contents": found}, [] if found is None else [hover_text(found)])
     if call.what != "references" and len(found) == 1 and is_whole_file(found[0], call.file):
         warn(f"nothing but a range over all of {call.file} covers this place")
-    places = (Place(one["path"] or one["uri"], *position_of(one["start"])) for one in found)
+    places = [Place(one["path"] or one["uri"], *position_of(one["start"])) for one in found]
     return Answer(
         {"places": [shown(one, settings.maps) for one in found]},
-        list(dict.fromkeys(place_line(place, call.utf16) for place in places)),
+        list(dict.fromkeys(place_lines(places, call.utf16))),
     )
 
 

@@ -2,9 +2,10 @@
 
 import argparse
 import os
-from contextlib import contextmanager, suppress
+import shutil
 from dataclasses import dataclass, field, replace
-from typing import Iterator, Optional
+from tempfile import TemporaryDirectory
+from typing import Optional
 
 from codenav.cli.command import Command
 from codenav.cli.show import Shown
@@ -14,7 +15,7 @@ from codenav.dumps.prepare.plan import Options
 from codenav.dumps.prepare.prepare import prepare
 from codenav.dumps.scip.options import ScipOptions
 from codenav.faults import BadCall
-from codenav.files import of_file
+from codenav.files import whole_file
 from codenav.limits import MOST_ELEMENTS
 from codenav.names import set_name
 from codenav.outcome import Outcome
@@ -187,8 +188,8 @@ def whole(dump: Dump, call: PrepareCall, path: str, shows: Shows) -> Outcome:
 
 def as_set(dump: Dump, call: PrepareCall, path: str, shows: Shows) -> SetFiles:
     """Splits an index, or the dump that was prepared, into the folder OUT."""
-    if os.path.isfile(call.output):
-        raise BadCall(f"{call.output}: too large for one project, and no folder for a set")
+    if call.output == "-" or os.path.exists(call.output) and not os.path.isdir(call.output):
+        raise BadCall(f"{call.output}: the set that it becomes is a folder, and this is none")
     options = SplitOptions(
         set_name(call.name or os.path.basename(os.path.abspath(call.output))),
         call.profile,
@@ -205,59 +206,32 @@ def as_set(dump: Dump, call: PrepareCall, path: str, shows: Shows) -> SetFiles:
     return split(dump, options, call.output, shows, call.of_index())
 
 
-@contextmanager
-def beside(target: str) -> Iterator[str]:
-    """A path beside a file for what may take its place, and goes where it doesn't. Faults have the
-    file's name."""
-    path = f"{os.path.realpath(target)}.{os.getpid()}.whole"
-    try:
-        yield path
-    except OSError as fault:
-        fault.filename = target if fault.filename == path else fault.filename
-        raise
-    finally:
-        with suppress(FileNotFoundError):
-            os.unlink(path)
-
-
-def said(outcome: Outcome) -> list[str]:
-    """What's said of a dump that is no set."""
-    return [*outcome.lines(), *([ADVICE] if outcome.over else [])]
-
-
-def into_file(dump: Dump, call: PrepareCall, shows: Shows) -> tuple[list[str], bool]:
-    """Writes OUT: a dump, or a folder with a set. Answers what's said of it, and whether all of it
-    is there and within the limits."""
+def made(dump: Dump, call: PrepareCall, path: str, shows: Shows) -> tuple[list[str], bool]:
+    """Writes OUT: a dump, which is made at a path first, or a folder with a set. Answers what's said
+    of it, and whether all of it is there and within the limits."""
     is_set = call.set or os.path.isfile(os.path.join(call.output, MANIFEST))
-    with beside(call.output) as path:
-        lines, is_whole = list[str](), True
-        if isinstance(dump, Source) or not is_set:
-            outcome = whole(dump, call, path, shows)
-            if not is_set and not outcome.is_too_large():
-                with of_file(call.output):
-                    os.replace(path, os.path.realpath(call.output))
-                return said(outcome), outcome.is_whole(call.lenient)
-            if isinstance(dump, Source):
-                lines = outcome.lines()
-                is_whole = replace(outcome, over=()).is_whole(call.lenient)
-        files = as_set(dump, call, path, shows)
-        return [*lines, *files.lines()], is_whole and files.reading.is_whole(call.lenient)
+    is_stream = call.output == "-" or os.path.exists(call.output)
+    is_stream = is_stream and not os.path.isfile(call.output) and not os.path.isdir(call.output)
+    lines, is_whole = list[str](), True
+    if isinstance(dump, Source) or not is_set:
+        outcome = whole(dump, call, path, shows)
+        if not is_set and (is_stream or not outcome.is_too_large()):
+            with open(path, "rb") as body, whole_file(call.output) as out:
+                shutil.copyfileobj(body, out)
+            advice = [ADVICE] if outcome.over else []
+            return [*outcome.lines(), *advice], outcome.is_whole(call.lenient)
+        if isinstance(dump, Source):
+            lines = outcome.lines()
+            is_whole = replace(outcome, over=()).is_whole(call.lenient)
+    files = as_set(dump, call, path, shows)
+    return [*lines, *files.lines()], is_whole and files.reading.is_whole(call.lenient)
 
 
 def run_prepare(call: PrepareCall) -> int:
     """Makes a dump or a set, and says what came of it."""
     shows = Shown("codenav prepare")
-    is_file = call.output != "-" and (
-        os.path.isfile(call.output) or os.path.isdir(call.output) or not os.path.exists(call.output)
-    )
-    with opened_dump(call.input) as dump:
-        if is_file:
-            lines, is_whole = into_file(dump, call, shows)
-        elif call.set:
-            raise BadCall(f"{call.output}: a set is a folder")
-        else:
-            outcome = whole(dump, call, call.output, shows)
-            lines, is_whole = said(outcome), outcome.is_whole(call.lenient)
+    with opened_dump(call.input) as dump, TemporaryDirectory(prefix="codenav-prepare-") as work:
+        lines, is_whole = made(dump, call, os.path.join(work, "dump.lsif"), shows)
     for line in lines:
         shows.warn(line)
     return 0 if is_whole else 1

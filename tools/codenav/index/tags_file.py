@@ -8,10 +8,9 @@ from collections import Counter
 from typing import Iterator, Optional
 
 from codenav.faults import BadCall
+from codenav.limits import MOST_BODY_BYTES, MOST_TAG_LINES
 
-MOST_LINES = 100_000
 MOST_LINE_BYTES = 65_536
-MOST_BODY_BYTES = 33_554_432
 CONTROLS = re.compile(rb"[\x00-\x08\x0b-\x1f\x7f]")
 LEFT_OUT = {
     "T01": "longer than 65536 bytes",
@@ -63,7 +62,7 @@ def fault_of(line: bytes, number: int, written: int) -> Optional[str]:
     parts = line.split(b"\t", 2)
     if len(parts) < 3 or not parts[0] or not parts[1]:
         return "T04"
-    if number > MOST_LINES:
+    if number > MOST_TAG_LINES:
         return "T11"
     return "H04" if written + len(line) + 1 > MOST_BODY_BYTES else None
 

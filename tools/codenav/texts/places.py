@@ -1,7 +1,7 @@
 """Documents and the files that they are, and columns in characters and in UTF-16 code units."""
 
 import os
-from typing import Any, NamedTuple, Optional
+from typing import Any, Callable, NamedTuple, Optional
 from urllib.parse import quote, unquote_to_bytes
 
 from codenav.addresses import KEPT as KEPT
@@ -152,13 +152,13 @@ def place_of(found: dict[str, Any], maps: Maps) -> Place:
     )
 
 
-def place_line(place: Place, utf16: bool) -> str:
+def place_line(place: Place, utf16: bool, read: Callable[[str], list[str]] = lines_of) -> str:
     """`path:line:column` of a place, from 1; with `utf16`, or where its file can't be read, in
-    UTF-16 code units, else in characters."""
+    UTF-16 code units, else in characters. `read` reads the lines of a file."""
     column = place.character
     if not utf16:
         try:
-            column = characters(lines_of(place.name)[place.line], column)
+            column = characters(read(place.name)[place.line], column)
         except (OSError, BadCall, IndexError):
             pass
     name = shown(place.name) if os.path.isabs(place.name) else place.name

@@ -211,7 +211,8 @@ class Today:
         for one in found:
             own = str(one.get("project")), str(one["uri"])
             if own != last:
-                last, file_map = own, self.file_map(*own)
+                path, last = path_of(own[1], self.maps), own
+                file_map = self.map_from(own[0], path) if path else FileMap(None, None)
             rows.append((place_key(one), placed(one, file_map), file_map))
         mapped = {key for key, _, to in rows if to.is_mapped()}
         kept = [row for row in rows if row[2].is_mapped() or row[0] not in mapped]
@@ -223,11 +224,6 @@ class Today:
             count = len({key for key, _, _ in kept})
             self.say(f"{len(gone)} of {count} places changed since {labels}")
         return [place for _, place, _ in kept if place is not None]
-
-    def file_map(self, project: str, uri: str) -> FileMap:
-        """Where a document is today, and the map to it."""
-        path = path_of(uri, self.maps)
-        return self.map_from(project, path) if path else FileMap(None, None)
 
     def map_from(self, project: str, path: str) -> FileMap:
         """Where a file of the index is today, and the map to it."""

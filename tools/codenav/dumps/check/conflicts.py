@@ -8,23 +8,6 @@ from codenav.dumps.check.lines import Dump, ends, targets
 from codenav.dumps.lsif.elements import Element, Id, shard_of
 from codenav.dumps.overlaps import crossing
 
-FITTING = {
-    "L07": ("vertex", None),
-    "L08": ("edge", None),
-    "L09": ("edge", None),
-    "L10": ("edge", None),
-    "L11": ("edge", "contains"),
-    "L12": ("edge", "contains"),
-    "L13": ("edge", None),
-    "L14": ("edge", "next"),
-    "L15": ("edge", "item"),
-    "L16": ("edge", "item"),
-    "L17": ("vertex", "$event"),
-    "L18": ("edge", None),
-    "L19": ("vertex", "document"),
-    "E01": ("vertex", "range"),
-    "E02": ("edge", "item"),
-}
 MOST_RANGES = 5
 
 
@@ -192,36 +175,36 @@ def elsewhere(dump: Dump, line: int, element: Element) -> list[str]:
     return [*notes, dump.named(shard, line)] if away else []
 
 
-CONFLICTS: dict[str, Callable[[Dump, int, Element], list[str]]] = {
-    "L04": same_id,
-    "L06": other_metadata,
-    "L07": nothing,
-    "L08": nothing,
-    "L09": not_earlier,
-    "L10": joined,
-    "L11": contained_before,
-    "L12": overlapping,
-    "L13": edge_before,
-    "L14": way_back,
-    "L15": nothing,
-    "L16": shard_named,
-    "L17": event_before,
-    "L18": ended_before,
-    "L19": same_uri,
-    "E01": in_no_document,
-    "E02": elsewhere,
+ANY = ""
+CONFLICTS: dict[str, tuple[str, str, Callable[[Dump, int, Element], list[str]]]] = {
+    "L04": (ANY, ANY, same_id),
+    "L06": (ANY, ANY, other_metadata),
+    "L07": ("vertex", ANY, nothing),
+    "L08": ("edge", ANY, nothing),
+    "L09": ("edge", ANY, not_earlier),
+    "L10": ("edge", ANY, joined),
+    "L11": ("edge", "contains", contained_before),
+    "L12": ("edge", "contains", overlapping),
+    "L13": ("edge", ANY, edge_before),
+    "L14": ("edge", "next", way_back),
+    "L15": ("edge", "item", nothing),
+    "L16": ("edge", "item", shard_named),
+    "L17": ("vertex", "$event", event_before),
+    "L18": ("edge", ANY, ended_before),
+    "L19": ("vertex", "document", same_uri),
+    "E01": ("vertex", "range", in_no_document),
+    "E02": ("edge", "item", elsewhere),
 }
+"""The type and the label of the elements that can have a fault, and what finds its conflicts."""
 
 
 def conflicts(dump: Dump, line: int, code: str, element: Element) -> list[str]:
     """What an element conflicts with; nothing where it can't have the fault, as where the report is
     of another dump."""
-    kind, label = FITTING.get(code, (None, None))
-    if element["type"] != (kind or element["type"]) or element["label"] != (
-        label or element["label"]
-    ):
+    kind, label, find = CONFLICTS[code]
+    if kind not in (ANY, element["type"]) or label not in (ANY, element["label"]):
         return []
     try:
-        return CONFLICTS[code](dump, line, element)
+        return find(dump, line, element)
     except (KeyError, TypeError, ValueError, AttributeError):
         return []

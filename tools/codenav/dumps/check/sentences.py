@@ -11,10 +11,10 @@ CODES = {
     "L04": 'each element has an id that no other element has, vertices and edges alike; the number 1 and the text "1" are two ids.',
     "L05": '`type` is "vertex" or "edge", and `label` is a text.',
     "L06": 'the first line, and no other, is a `metaData` vertex with `version` "0.6.0" and, where it has one, `positionEncoding` "utf-16"; '
-    "`prepare-lsif` sets the version.",
+    "`codenav prepare` sets the version.",
     "L09": "a vertex is written before each edge that names it, and an edge joins vertices alone.",
     "L11": "a range is named once in all `contains` edges.",
-    "L12": "a document has one range for each span, and ranges that overlap are nested, one in the other; `prepare-lsif` merges equal ones.",
+    "L12": "a document has one range for each span, and ranges that overlap are nested, one in the other; `codenav prepare` merges equal ones.",
     "L13": "one edge of this label, at most, goes out from a vertex.",
     "L14": "`next` edges lead on to other vertices, and never back to one that they came from.",
     "L15": 'an `item` edge has the id of a document or project as `shard` (or as `document`), and a `property`, where it has one, is "definitions", '
@@ -24,7 +24,7 @@ CODES = {
     "without a begin before it.",
     "L18": "a document ends after the last edge that goes out from it by `contains` or names one of its ranges.",
     "L19": "a document is one vertex, and no two have uris that the URL Standard serializes to one text.",
-    "L20": "a dump has at most 100,000 elements: write several dumps, or leave out what has no effect, as `prepare-lsif --strip` does.",
+    "L20": "a dump has at most 100,000 elements: write several dumps, or leave out what has no effect, as `codenav prepare --strip` does.",
     "E01": "a `contains` edge from its document names each range.",
     "E02": "an `item` edge has as `shard` the document that contains its targets: targets in several documents need an edge for each.",
 }

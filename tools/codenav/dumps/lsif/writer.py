@@ -1,6 +1,6 @@
 """Writes the lines of a dump."""
 
-from typing import BinaryIO
+from typing import IO
 
 from codenav.limits import excesses
 from codenav.outcome import Excess
@@ -9,7 +9,7 @@ from codenav.outcome import Excess
 class LineWriter:
     """Writes lines, and counts them and their bytes."""
 
-    def __init__(self, out: BinaryIO) -> None:
+    def __init__(self, out: IO[bytes]) -> None:
         self.out = out
         self.elements = self.body_bytes = self.longest_line = 0
 

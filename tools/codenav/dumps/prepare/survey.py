@@ -1,4 +1,4 @@
-"""The first reading of a dump for `prepare-lsif`: its vertices and edges as numbers in arrays, so
+"""The first reading of a dump for `prepare`: its vertices and edges as numbers in arrays, so
 that memory grows with the ids alone.
 
 Each id gets a number when it's first named, also by an edge that comes before its vertex. Numbers
@@ -9,7 +9,7 @@ from array import array
 from dataclasses import dataclass, field
 from hashlib import blake2b
 from itertools import pairwise
-from typing import Any, Iterator, Optional
+from typing import Any, Optional
 
 from codenav.addresses import folder_address
 from codenav.dumps.lsif.elements import Element, Id, Row, is_id, shard_of, span_of, targets_of

@@ -1,33 +1,11 @@
-"""What the elements of a conversion go to, and how they're written as a dump."""
+"""The elements of a conversion, as they're written as a dump."""
 
 from json import dumps
-from typing import Any, Protocol
+from typing import Any
 
 from codenav.dumps.lsif.writer import LineWriter
 
 LAST = 0x7FFFFFFF
-
-
-class Elements(Protocol):
-    """What takes the elements of a conversion: a `Writer`, or what makes tables of them. `elements`
-    counts them."""
-
-    elements: int
-
-    def vertex(self, label: str, **members: Any) -> int:
-        """Takes a vertex and answers its id."""
-
-    def range(self, start: int, end: int) -> int:
-        """Takes a range, whose ends are packed, and answers its id."""
-
-    def edge(self, label: str, source: int, target: int) -> None:
-        """Takes an edge to one vertex."""
-
-    def edges(self, label: str, source: int, targets: list[int], *more: str) -> None:
-        """Takes an edge to several vertices."""
-
-    def items(self, result: int, places: list[int], shard: int, role: str = "") -> None:
-        """Takes the places of a result in a document, or the results that it leads to."""
 
 
 class Writer(LineWriter):

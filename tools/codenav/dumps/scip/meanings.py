@@ -10,7 +10,7 @@ projects, which ask by monikers, get that symbol's places and text and no other'
 
 from typing import Iterator
 
-from codenav.dumps.scip.elements import Elements
+from codenav.dumps.scip.elements import Writer
 from codenav.dumps.scip.occurrences import DEFINED, USED, Stay, key_of
 from codenav.dumps.scip.scip_pb2 import Document
 from codenav.dumps.scip.survey import (
@@ -35,7 +35,7 @@ class Meanings:
     """What was written of symbols. Those that are local are forgotten with their document, but for
     those that the first reading keeps."""
 
-    def __init__(self, writer: Elements, survey: Survey) -> None:
+    def __init__(self, writer: Writer, survey: Survey) -> None:
         self.writer, self.survey = writer, survey
         self.packages: dict[tuple[str, ...], int] = {}
         self.empties: dict[str, int] = {}

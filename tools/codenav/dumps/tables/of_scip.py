@@ -8,6 +8,7 @@ from array import array
 from typing import IO, Any, Iterator, Sequence
 
 from codenav.dumps.scip.conversion import converted
+from codenav.dumps.scip.elements import Writer
 from codenav.dumps.scip.messages import IndexFile
 from codenav.dumps.scip.options import ScipOptions
 from codenav.dumps.tables.disk_arrays import Column, Numbers
@@ -44,14 +45,14 @@ class StoredGraph(Graph):
             yield [first + at for at in order], items
 
 
-class GraphWriter:
-    """Takes the elements that a conversion writes, as its `Writer` does."""
+class GraphWriter(Writer):
+    """Makes tables of the elements that a conversion writes, and writes those of hovers."""
 
     def __init__(self, profile: str, texts: IO[bytes]) -> None:
-        self.graph, self.texts = StoredGraph(), texts
+        super().__init__(texts)
+        self.graph = StoredGraph()
         self.reader = Reader(profile, self.graph)
         self.passing: list[int] = []
-        self.elements = self.body_bytes = self.longest_line = 0
 
     def number(self) -> int:
         """The id of the next element."""
@@ -67,7 +68,7 @@ class GraphWriter:
         element = {"id": own, "type": "vertex", "label": label, **members}
         if label == "hoverResult":
             text = json.dumps(element, ensure_ascii=False, separators=(",", ":"))
-            length = self.texts.write(text.encode() + b"\n")
+            length = self.out.write(text.encode() + b"\n")
         self.reader.take(element, length)
         return own
 
@@ -112,7 +113,7 @@ class GraphWriter:
         """The tables, when all is written."""
         self.end_document()
         self.graph.begin_document()
-        self.texts.flush()
+        self.out.flush()
         self.reader.forget()
         return self.graph
 

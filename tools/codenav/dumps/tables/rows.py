@@ -8,7 +8,7 @@ from __future__ import annotations
 
 from array import array
 from dataclasses import dataclass
-from typing import Iterator, Mapping
+from typing import Mapping
 
 from codenav.dumps.closure import reached
 from codenav.dumps.tables.graph import HOVER, KINDS, NONE, PLACE, RANGE, SET, Graph

@@ -8,6 +8,8 @@ from collections import Counter
 from typing import Iterable, Iterator, Sequence
 
 from codenav.addresses import serialized
+from codenav.dumps.closure import reached
+from codenav.dumps.overlaps import crossing
 from codenav.dumps.tables.disk_arrays import Numbers, Sorted
 from codenav.dumps.tables.graph import LINE, NONE, PLACE, Graph
 from codenav.faults import NotADump
@@ -33,19 +35,12 @@ def ordered_documents(graph: Graph, without: frozenset[str]) -> tuple[list[str],
 def refuse_overlaps(flat: Flat) -> None:
     """Refuses two ranges of a document that are equal, or overlap and aren't nested (L12)."""
     for document, uri in enumerate(flat.uris):
-        open_ends: list[int] = []
-        before = None
         first, last = flat.first[document], flat.first[document + 1]
-        for start, end in zip(flat.start[first:last], flat.end[first:last]):
-            while open_ends and open_ends[-1] <= start:
-                open_ends.pop()
-            if before == (start, end) or start < end and open_ends and open_ends[-1] < end:
-                place = f"{uri}, {start // LINE}:{start % LINE}"
-                text = f"{place}: a range that equals or overlaps another (L12)"
-                raise NotADump(f"{text}; `codenav prepare` prepares a dump")
-            if start < end:
-                open_ends.append(end)
-            before = start, end
+        starts = flat.start[first:last]
+        for _, at in crossing(zip(starts, flat.end[first:last])):
+            place = f"{uri}, {starts[at] // LINE}:{starts[at] % LINE}"
+            text = f"{place}: a range that equals or overlaps another (L12)"
+            raise NotADump(f"{text}; `codenav prepare` prepares a dump")
 
 
 def add_places(flat: Flat, graph: Graph, found: Sorted, most: int) -> None:
@@ -87,10 +82,10 @@ def led_places(flat: Flat, graph: Graph, most: int) -> Sorted:
         if room <= 0 or steps <= 0:
             flat.cut_short += 1
             continue
-        reached, is_short, gone = reached_from(graph, result, min(room, steps))
+        (_, *others), is_short, gone = reached(graph.leads, [result], min(room, steps))
         steps -= gone
         items = array("q")
-        for other in reached:
+        for other in others:
             if len(items) > room:
                 break
             for role in range(ROLES):
@@ -100,20 +95,6 @@ def led_places(flat: Flat, graph: Graph, most: int) -> Sorted:
         led.extend(items[:room])
         room -= len(items)
     return led
-
-
-def reached_from(graph: Graph, result: int, most: int) -> tuple[list[int], bool, int]:
-    """The results that a result leads to but for itself, whether there are more, and in how many
-    steps."""
-    seen, todo, gone = {result: None}, [result], 0
-    while todo and gone <= most:
-        ends = graph.leads.get(todo.pop(), [])
-        gone += len(ends)
-        for end in ends:
-            if end not in seen:
-                seen[end] = None
-                todo.append(end)
-    return list(seen)[1:], bool(todo), gone
 
 
 def flattened(graph: Graph, without: frozenset[str] = frozenset(), most: int = MOST_LED) -> Flat:

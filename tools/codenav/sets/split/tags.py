@@ -8,13 +8,12 @@ from dataclasses import dataclass
 from typing import Sequence
 
 from codenav.addresses import serialized
-from codenav.limits import MOST_BODY_BYTES
+from codenav.limits import MOST_BODY_BYTES, MOST_TAG_LINES
 from codenav.texts.places import Maps, uri_of
 
 ESCAPE = re.compile(rb"\\(?:x([0-9A-Fa-f]{2})|(.))", re.DOTALL)
 LETTERS = dict(zip(b"abtnvfr", b"\a\b\t\n\v\f\r"))
 PSEUDO = b"!_TAG_"
-MOST_LINES = 100_000
 
 
 @dataclass
@@ -60,7 +59,7 @@ def cut_tags(path: str, folder: str, maps: Maps, firsts: Sequence[str]) -> CutTa
             part = parts[name]
             size = sizes[part] + len(line)
             room = MOST_BODY_BYTES - sum(map(len, heads))
-            if len(lines[part]) + len(heads) >= MOST_LINES or size > room:
+            if len(lines[part]) + len(heads) >= MOST_TAG_LINES or size > room:
                 left_out += 1
                 continue
             lines[part].append(line)

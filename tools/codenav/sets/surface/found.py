@@ -95,14 +95,3 @@ def result_of(graph: Graph, firsts: list[array[int]], vertex: int, request: int)
         return bound[request]
     after = graph.after_range[own]
     return NONE if after == NONE else firsts[request][after]
-
-
-def led_to(graph: Graph, results: set[int]) -> set[int]:
-    """Results, and those that they lead to."""
-    found, todo = set(results), list(results)
-    while todo:
-        for other in graph.leads.get(todo.pop(), ()):
-            if other not in found:
-                found.add(other)
-                todo.append(other)
-    return found

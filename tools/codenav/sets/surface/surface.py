@@ -9,15 +9,16 @@ limits is split as a dump is.
 
 from array import array
 from itertools import groupby
-from typing import BinaryIO, Iterator
+from typing import BinaryIO
 
+from codenav.dumps.closure import reached
 from codenav.dumps.tables.graph import HOVER, NONE, REFERENCES, RESULTS, Graph
 from codenav.dumps.tables.reader import read_graph
 from codenav.faults import NotADump
 from codenav.files import whole_file
 from codenav.progress import Shows
 from codenav.sets.split.lines import ROLE_NAMES, Lines, as_text
-from codenav.sets.surface.found import Bearer, bearers, led_to
+from codenav.sets.surface.found import Bearer, bearers
 
 
 class Surface:
@@ -29,7 +30,7 @@ class Surface:
         self.bytes, self.longest = 0, 0
         self.bearers = list(bearers(graph))
         shown = {result for bearer in self.bearers for _, result in bearer.results}
-        self.results = led_to(graph, shown)
+        self.results = set(reached(graph.leads, shown)[0])
         self.items = sorted({item for item in graph.items if item >> 33 in self.results})
         self.ranges = array("i", [0]) * len(graph.start)
         self.own_results: dict[int, int] = {}
@@ -113,23 +114,15 @@ class Surface:
 
     def write_monikers(self) -> None:
         """The monikers of what others find, and those that are joined to them."""
-        todo = list(dict.fromkeys(own for bearer in self.bearers for own in bearer.monikers))
-        found = dict.fromkeys(todo)
-        for own in todo:
-            others = [other for other in self.attached(own) if other not in found]
-            found.update(dict.fromkeys(others))
-            todo += others
-        for own in sorted(found):
+        starts = (own for bearer in self.bearers for own in bearer.monikers)
+        found = sorted(reached(self.graph.attached, starts)[0])
+        for own in found:
             self.write_moniker(own)
-        for own in sorted(found):
-            for other in self.attached(own):
+        for own in found:
+            for other in dict.fromkeys(self.graph.attached.get(own, ())):
                 if own < other:
                     self.lines.edge("attach", self.monikers[own], self.monikers[other])
             self.flush()
-
-    def attached(self, own: int) -> Iterator[int]:
-        """The monikers that are joined to one, each once."""
-        return iter(dict.fromkeys(self.graph.attached.get(own, ())))
 
     def write_moniker(self, own: int) -> None:
         """A moniker with its package."""
@@ -144,14 +137,14 @@ class Surface:
         self.lines.result_set(results, [self.monikers[own] for own in bearer.monikers])
 
 
-def write_surface(
-    path: str, profile: str, target: str, shows: Shows, name: str = ""
-) -> tuple[int, Surface]:
-    """Writes the surface of the prepared dump in a file into another; `name` is what faults call
-    it. Answers how many elements the dump has, and the surface. Raises NotADump."""
+def write_surface(path: str, profile: str, target: str, shows: Shows) -> tuple[int, Surface]:
+    """Writes the surface of the prepared dump in a file into another; answers how many elements the
+    dump has, and the surface. Raises NotADump."""
     with open(path, "rb") as source:
-        graph = read_graph(source, name or path, profile, shows)
+        graph = read_graph(source, path, profile, shows)
+        shows.begin("surface")
         with whole_file(target) as out:
             surface = Surface(graph, source, out)
             surface.write()
+        shows.end(f"elements {surface.lines.count}")
     return graph.elements, surface
