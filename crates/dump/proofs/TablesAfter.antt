@@ -16,7 +16,7 @@ use Rattle.dump.specs.Steps.Links.{is_single, is_link, named_by, is_named}
 use Rattle.dump.specs.Walks.{same_label}
 use Rattle.dump.proofs.Fills.{ranges_test}
 use Rattle.dump.proofs.Known.{same_contained}
-use Rattle.dump.proofs.Members.{contains_head, contains_tail}
+use Rattle.streams.proofs.Members.{contains_head, contains_tail}
 use Rattle.dump.proofs.Documents.{document_is}
 use Rattle.dump.proofs.FirstIndices.{position-cons, position_hit, position_miss, position_kept, position-any}
 
