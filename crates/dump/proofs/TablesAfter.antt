@@ -1,5 +1,5 @@
 -- What tables say of elements, and what an element more makes of them.
-use Rattle.std.proofs.Common.{◌≡◌, ◌∙◌, ◌&&◌, ◌||◌, ◌+◌, ◌<◌, ◌++◌, ◌∷◌, [], ℕ, Bool, true, false, cond, List, length, refl, sym, ap, Option, Some, None, option_and_then, is_some, if◌then◌else◌}
+use Rattle.std.proofs.Common.{◌≡◌, ◌∙◌, ◌&&◌, ◌||◌, ◌+◌, ◌++◌, ◌∷◌, [], ℕ, Bool, true, false, cond, List, length, refl, sym, ap, Option, Some, None, option_and_then, is_some, if◌then◌else◌}
 use Rattle.std.specs.Prelude.{Contains, option_map}
 use Rattle.std.specs.List.{list_any, position}
 use Rattle.lsif.specs.Element.{IdValue, same_id, meta_data, project, document, range, result_set, request_result, hover_result, moniker, package_information, event, other_vertex, begin_event, end_event, other_event, contains, next, request_edge, moniker_edge, package_edge, attach, item, other_edge, ElementValue, vertex, edge}

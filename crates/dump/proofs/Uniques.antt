@@ -1,5 +1,5 @@
 -- In a sound dump an id is that of one element, and a uri is that of one document.
-use Rattle.std.proofs.Common.{◌≡◌, inl, inr, ⊎_elim, ◌∙◌, ℕ, Bool, true, false, cond, List, [], ◌∷◌, ◌++◌, find, refl, sym, ap, subst}
+use Rattle.std.proofs.Common.{◌≡◌, inl, inr, ◌∙◌, ℕ, Bool, true, false, List, [], ◌∷◌, ◌++◌, refl, sym, ap, subst}
 use Rattle.std.specs.Prelude.{◌↔◌, Contains, Option, Some, None, is_some, option_and_then}
 use Rattle.std.specs.List.{list_any}
 use Rattle.std.proofs.lemmas.List.Elements.{Contains-push_cases}
@@ -8,8 +8,7 @@ use Rattle.lsif.specs.Element.{IdValue, same_id, VertexValue, document, ElementV
 use Rattle.dump.specs.Graph.{element_at, vertex_of, vertex_at}
 use Rattle.dump.specs.Conditions.{is_document_of, has_used_uri}
 use Rattle.dump.specs.Progress.{IsSound}
-use Rattle.streams.proofs.Bools.{or_left, or_right}
-use Rattle.streams.proofs.Members.{any_from, contains_cases, contains_head, contains_tail, found_member, member_found, not_in_nil}
+use Rattle.streams.proofs.Members.{any_from, found_member, member_found, not_in_nil}
 use Rattle.dump.proofs.SameIds.{same_id_eq, same_id_self}
 use Rattle.dump.proofs.Ends.{HasNoCode, holds}
 
