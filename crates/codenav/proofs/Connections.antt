@@ -1,7 +1,7 @@
 -- Connections of a server, one after the other.
 use Rattle.std.proofs.Common.{ℕ, Bool, List, [], Option, None, Err, Result, refl}
 use Rattle.machine.specs.State.{State}
-use Rattle.lsif.specs.Streams.{Output}
+use Rattle.streams.specs.Streams.{Output}
 use Rattle.http_edge.specs.Serving.{Serves, session}
 use Rattle.http_edge.specs.declared.serve.ServeFault.{ServeFault}
 use Rattle.http_edge.specs.declared.serve.ServeFault.TheVariants.{Memory}

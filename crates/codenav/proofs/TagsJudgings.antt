@@ -2,7 +2,7 @@
 use Rattle.std.proofs.Common.{◌≡◌, ◌∙◌, ℕ, ◌+◌, ◌<◌, Bool, true, false, List, [], ◌∷◌, length, fold, map, Option, Some, None, Result, Ok, Err, refl, sym, ap, subst, arith, if◌then◌else◌}
 use Rattle.std.specs.Prelude.{IfOk}
 use Rattle.std.proofs.lemmas.Bool.{leb-false}
-use Rattle.lsif.specs.Lines.{LineBufferValue}
+use Rattle.streams.specs.Lines.{LineBufferValue}
 use Rattle.tags.specs.States.{Summary, State, running, stopped, add, advance, counted, next, order_in, state_after, summary_of, Finishes, IsRunning}
 use Rattle.tags.specs.Fault.{Reading, contents, is_descending, is_late, is_past_limit, most_lines, tags_of, IsFaultless, IsFirstFault}
 use Rattle.tags.specs.Lines.{AreReadings, IsHanded, IsReading, Line, lines_of}

@@ -2,8 +2,8 @@
 use Rattle.std.proofs.Common.{◌≡◌, ◌≢◌, ◌∙◌, ℕ, ◌<◌, ◌==◌, List, [], ◌∷◌, ◌++◌, Bool, true, false, length, map, Option, Some, None, Ok, Err, refl, ap, sym, arith}
 use Rattle.std.proofs.lemmas.Bool.{lt-ltb}
 use Rattle.std.proofs.lemmas.Bool.Decides.{nat_tests}
-use Rattle.lsif.specs.Lines as lent
-use Rattle.lsif.specs.Lines.{BeginsWith, GivesLine, GivesNone, HasLongLine, IsLine, onto_first}
+use Rattle.streams.specs.Lines as lent
+use Rattle.streams.specs.Lines.{BeginsWith, GivesLine, GivesNone, HasLongLine, IsLine, onto_first}
 use Rattle.tags.specs.Bytes.{line_feed}
 use Rattle.tags.specs.Lines.{Line, ended_line, in_front, lines_of, longest_line}
 use Rattle.tags.specs.Steps.Readings.{handed, reading_of, readings_of}

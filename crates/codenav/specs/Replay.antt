@@ -2,7 +2,7 @@
 use Rattle.std.specs.Prelude.{◌∷◌, [], ℕ, true, List, Option, Result}
 use Rattle.sqlite.specs.State as sqlite
 use Rattle.machine.specs.State.{State, nothing}
-use Rattle.lsif.specs.Streams.{Output}
+use Rattle.streams.specs.Streams.{Output}
 use Rattle.desk.specs.TableStates.{LeavesOneOf, ServesFor}
 use Rattle.http_edge.specs.Replies.{AnswerValue}
 use Rattle.http_edge.specs.Requests.{MessageValue}

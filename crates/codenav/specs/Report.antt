@@ -3,8 +3,8 @@ use Rattle.std.specs.Prelude.{◌≡◌, ℕ, ◌+◌, List, [], ◌++◌, lengt
 use Rattle.std.specs.Fmt.{decimal}
 use Rattle.lsif.specs.Code as lsif_codes
 use Rattle.lsif.specs.Element as elements
-use Rattle.lsif.specs.Sending.{Writes, CutsShort}
-use Rattle.lsif.specs.Streams.{Output}
+use Rattle.streams.specs.Sending.{Writes, CutsShort}
+use Rattle.streams.specs.Streams.{Output}
 use Rattle.lsif.specs.declared.profile.Profile.{Profile}
 use Rattle.dump.specs.Fault.{IsFault}
 use Rattle.dump.specs.Lines.{dump_of}

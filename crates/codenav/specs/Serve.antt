@@ -1,7 +1,7 @@
 -- What `codenav serve` answers its connections.
 use Rattle.std.specs.Prelude.{◌≡◌, ℕ, ◌+◌, ◌-◌, ◌<◌, min, nat_lt, Bool, List, [], ◌∷◌, Option, Some, None, Result, Ok, Err, if◌then◌else◌}
 use Rattle.machine.specs.State.{State}
-use Rattle.lsif.specs.Streams.{Output}
+use Rattle.streams.specs.Streams.{Output}
 use Rattle.http_edge.specs.Replies.{AnswerValue}
 use Rattle.http_edge.specs.Requests.{MessageValue}
 use Rattle.http_edge.specs.Serving.{Serves, session, after_a_stop_of_answers}

@@ -8,9 +8,10 @@ use crate::command_line::command;
 use crate::limits::{MOST_CONNECTIONS, MOST_PORT};
 use clap::error::ErrorKind;
 use clap::{ArgMatches, Command, Error};
-use lsif::{OUT_OF_MEMORY, Profile};
+use lsif::Profile;
 use std::alloc::{AllocError, Global};
 use std::convert::AsStr;
+use streams::OUT_OF_MEMORY;
 
 /// What the program is to do.
 #[derive(Clone, Copy, Debug, PartialEq, Eq)]

@@ -1,13 +1,14 @@
 //! `codenav check-lsif`: reads a dump and writes its report. The text of reports is in `report.rt`.
 ghost use Rattle.std.specs.Prelude.{◌≡◌, IfOk};
-ghost use Rattle.lsif.specs.Streams.{CanCount, IsCountable};
+ghost use Rattle.streams.specs.Streams.{CanCount, IsCountable};
 ghost use Rattle.codenav.specs.Report.{Checks, CountsCheck, ReportsDump};
 ghost use Rattle.codenav.specs.Steps.Judging.{CountsRead};
 
 use crate::report::{CheckFault, FaultyLine, Report, Status, send};
 use dump::{DumpFault, read_dump};
-use lsif::{Profile, Sink, Source};
+use lsif::Profile;
 use std::alloc::Global;
+use streams::{Sink, Source};
 
 /// The report of a reader's bytes.
 fn judge<R: Source>(alloc: Global, profile: Profile, r: &mut R) -> Result<Report, CheckFault>

@@ -1,8 +1,8 @@
 //! `codenav check-tags`: reads a tags file and writes its report. The text of reports is in
 //! `report.rt`.
 ghost use Rattle.std.specs.Prelude.{IfOk};
-ghost use Rattle.lsif.specs.Buffered.{unread};
-ghost use Rattle.lsif.specs.Streams.{CanCount, IsCountable};
+ghost use Rattle.streams.specs.Buffered.{unread};
+ghost use Rattle.streams.specs.Streams.{CanCount, IsCountable};
 ghost use Rattle.tags.specs.Faults.{result_map};
 ghost use Rattle.tags.specs.Fault.{Reading};
 ghost use Rattle.tags.specs.Lines.{IsHanded};
@@ -12,8 +12,8 @@ ghost use Rattle.codenav.specs.Steps.Judging.{CountsRead};
 ghost use Rattle.codenav.specs.Steps.TagsJudging.{Concludes, Feeds, IsFaulty, IsReady, Takes};
 
 use crate::report::{CheckFault, FaultyLine, Report, Status, send};
-use lsif::{LineBuffer, LinesFault, Sink, Source};
 use std::alloc::Global;
+use streams::{LineBuffer, LinesFault, Sink, Source};
 use tags::{Code, LONGEST_LINE, LineFault, TagChecker, TagsFault, count_law, reading_law};
 
 /// What a step of a check came upon.

@@ -24,7 +24,7 @@ use check_tags::check_tags;
 use database::{MEMORY, close_connection, connect_file, connection_of, migrate_file, open_desk};
 use desk::{MemoryDesk, TableDesk};
 use limits::{REST_SECONDS, WAIT_SECONDS, WHOLE_SECONDS};
-use lsif::{Counted, Profile};
+use lsif::Profile;
 use program_fault::ProgramFault;
 use replay::{replay_file, replay_in_memory};
 use serve::{CountedListener, serve_connections, serve_in_memory};
@@ -35,6 +35,7 @@ use std::process::ExitCode;
 use std::rt::{Env, Files};
 use std::time::Duration;
 use std::{env, fs, io};
+use streams::Counted;
 use tables::TablesFault;
 use timed::Limits;
 

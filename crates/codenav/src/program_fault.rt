@@ -4,10 +4,10 @@ use crate::call::CallFault;
 use crate::report::CheckFault;
 use crate::serve::ServerFault;
 use http_edge::ServeFault;
-use lsif::{CANNOT_READ, CANNOT_WRITE, OUT_OF_MEMORY};
 use std::alloc::AllocError;
 use std::io;
 use std::io::ErrorKind;
+use streams::{CANNOT_READ, CANNOT_WRITE, OUT_OF_MEMORY};
 use tables::TablesFault;
 use thiserror::Error;
 

@@ -7,7 +7,7 @@ ghost use Rattle.sqlite.specs.Held.{state};
 ghost use Rattle.sqlite.specs.State.{HasCleanDisk};
 ghost use Rattle.tables.specs.Stands.{Finds};
 ghost use Rattle.machine.specs.State.{State};
-ghost use Rattle.lsif.specs.Streams.{CanCount, IsCountable};
+ghost use Rattle.streams.specs.Streams.{CanCount, IsCountable};
 ghost use Rattle.http_edge.specs.Replies.{AnswerValue};
 ghost use Rattle.http_edge.specs.Requests.{MessageValue};
 ghost use Rattle.http_edge.specs.Serving.{CountsRead, CountsWrite, Serves, session, after_a_stop_of_answers};
@@ -19,9 +19,9 @@ use crate::database::{connect_file, connection_of, open_desk};
 use crate::limits::STREAM_REQUESTS;
 use desk::{Desk, IndexDesk, TableDesk, memory_law};
 use http_edge::{ServeFault, serve_stream};
-use lsif::{Sink, Source};
 use sqlite::{Alter, Connection, FileFrom, FileStore, Start};
 use std::alloc::Global;
+use streams::{Sink, Source};
 use tables::{Tables, TablesFault};
 
 /// Answers the requests (HTTP/1.1, RFC 9112) of a stream, one after the other and at most 1,000,000

@@ -1,11 +1,11 @@
 //! The reports of the checks: the count of a sound file, or the fault of a line.
 ghost use Rattle.std.specs.Prelude.{◌≡◌, IfOk, string_bytes};
-ghost use Rattle.lsif.specs.Streams.{CanCount};
+ghost use Rattle.streams.specs.Streams.{CanCount};
 ghost use Rattle.codenav.specs.Report.{exit_code_of, report_text, status_of};
 ghost use Rattle.codenav.specs.Steps.Judging.{Sends};
 
-use lsif::{CANNOT_READ, CANNOT_WRITE, OUT_OF_MEMORY, Sink, push_all};
 use std::alloc::{AllocError, Global};
+use streams::{CANNOT_READ, CANNOT_WRITE, OUT_OF_MEMORY, Sink, push_all};
 use thiserror::Error;
 
 /// A faulty line, and its code as it's printed with its text.

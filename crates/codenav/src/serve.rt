@@ -2,7 +2,7 @@
 //! after the other. A stream is served in the crate `http_edge`. `specs/Serve`.
 ghost use Rattle.std.specs.Prelude.{◌≡◌, ◌+◌, ◌^◌, ◌<◌, true, List, Err, IfErr, length};
 ghost use Rattle.machine.specs.State.{State};
-ghost use Rattle.lsif.specs.Streams.{CanCount, IsCountable};
+ghost use Rattle.streams.specs.Streams.{CanCount, IsCountable};
 ghost use Rattle.http_edge.specs.Serving.{CountsRead, CountsWrite, Serves, session, after_a_stop_of_answers};
 ghost use Rattle.http_edge.specs.declared.serve.ServeFault.TheVariants as serve_fault;
 ghost use Rattle.codenav.specs.Serve.{ConnectionValue, CountsAccept, CountsServed, ServesConnection, ServesEach, most_requests};
@@ -11,12 +11,12 @@ use crate::limits::CONNECTION_REQUESTS;
 use crate::timed::{Limits, Timed};
 use desk::{Desk, IndexDesk, MemoryDesk, memory_law};
 use http_edge::{ServeFault, serve_stream};
-use lsif::{Counted, OUT_OF_MEMORY, Sink, Source};
 use sqlite::FileStore;
 use std::alloc::{AllocError, Global};
 use std::io::{Read, Write};
 use std::net::{OpenListener, OpenStream};
 use std::time::{Clock, Instant};
+use streams::{Counted, OUT_OF_MEMORY, Sink, Source};
 use tables::{MemoryDisk, Tables};
 use thiserror::Error;
 

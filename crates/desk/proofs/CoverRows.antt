@@ -28,7 +28,8 @@ use Rattle.tables.specs.Steps.Climbs.{IsCoverRow, AreWithin, row_found}
 use Rattle.tables.proofs.CoverLists.{covers_rows, range_of}
 use Rattle.desk.specs.Steps.Selected.{by_span, range_found_of}
 use Rattle.machine.proofs.Covers.{Lies, two, within, inner_total, same_position, ties_both, position_ties, position_back, position_same}
-use Rattle.machine.proofs.Members.{contains_head, contains_tail, contains_cases, contains_map, map_source, not_in_nil, and_both}
+use Rattle.streams.proofs.Members.{contains_head, contains_tail, contains_cases, contains_map, map_source, not_in_nil}
+use Rattle.streams.proofs.Bools.{and_both}
 
 -- ---- the sort
 

@@ -13,7 +13,8 @@ use Rattle.std.proofs.lemmas.List.Quantifiers.{position-Some}
 use Rattle.dump.specs.declared.single.SingleLabel.{SingleLabel}
 use Rattle.dump.specs.declared.single.SingleLabel.TheVariants.{Next, PackageInformation}
 use Rattle.std.proofs.lemmas.Option.{get_or_from_slice_get}
-use Rattle.machine.proofs.Members.{contains_head, contains_tail, contains_one, not_in_nil, flat_of, in_if, same_id_self}
+use Rattle.streams.proofs.Members.{contains_head, contains_tail, contains_one, not_in_nil, flat_of, in_if}
+use Rattle.dump.proofs.SameIds.{same_id_self}
 
 abbrev pub HasLine : List ElementValue → IdValue → Type 0
 HasLine elements i = (k : ℕ) × (line_of elements i ≡ Some k)

@@ -19,8 +19,8 @@ use Rattle.desk.specs.Steps.Plain.{Stands}
 use Rattle.desk.specs.Steps.Selected.{bearer_in_cmp, IsBearerOf, IsBearerHere, IsBearerAmong, AddsBearers, FoundSoFar}
 use Rattle.desk.specs.declared.project.Project.{Project}
 use Rattle.machine.proofs.EntryLists.{entry_found, found_entry, rises_cons, rises_nil, rises_head, rises_tail, rises_append}
-use Rattle.machine.proofs.Listing.{relisted}
-use Rattle.machine.proofs.Members.{contains_head, contains_tail, contains_cases, not_in_nil}
+use Rattle.streams.proofs.Members.{contains_head, contains_tail, contains_cases, not_in_nil}
+use Rattle.dump.proofs.Listing.{same_listing as relisted}
 
 abbrev Entry : Type 0
 Entry = String Global × Project

@@ -13,9 +13,9 @@ use Rattle.machine.specs.Selections.{RangeFound}
 use Rattle.desk.specs.Steps.RowHovers.{IsLeast, joined_cmp}
 use Rattle.desk.specs.Steps.Rows.{AreJoined, AreKeys, IsRowJoined, JoinedValue, joined_value}
 use Rattle.desk.specs.declared.rows.bearers.JoinedBearer.{JoinedBearer}
-use Rattle.machine.proofs.Listing.{under}
+use Rattle.streams.proofs.Members.{contains_cases, contains_head, contains_map, contains_tail, map_source, not_in_nil}
+use Rattle.dump.proofs.Listing.{under}
 use Rattle.desk.proofs.ListedRows.{joined_total}
-use Rattle.machine.proofs.Members.{contains_cases, contains_head, contains_map, contains_tail, map_source, not_in_nil}
 
 abbrev bearer_cmp : JoinedBearer → JoinedBearer → Ordering
 bearer_cmp = under joined_value joined_cmp

@@ -20,7 +20,9 @@ use Rattle.desk.specs.Steps.Rows.{joined_value, project_result_cmp, project_resu
 use Rattle.desk.specs.declared.rows.bearers.JoinedBearer.{JoinedBearer}
 use Rattle.desk.specs.declared.rows.places.ItemPlace.{ItemPlace}
 use Rattle.desk.specs.declared.rows.results.ProjectResult.{ProjectResult}
-use Rattle.machine.proofs.Listing.{eq_of, listed, text_eq, under}
+use Rattle.streams.proofs.Bools.{eq_of}
+use Rattle.streams.proofs.Lists.{text_eq}
+use Rattle.dump.proofs.Listing.{sorted_listing as listed, under}
 
 -- ---- results
 

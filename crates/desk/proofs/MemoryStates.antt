@@ -15,8 +15,8 @@ use Rattle.machine.specs.State.{State, Change, set_dump, set_tags, clear, change
 use Rattle.machine.specs.Selections.{MarkText, FindsHover, FindsItems, FindsMarks, mark_text_cmp}
 use Rattle.desk.specs.Indexes.{AreFaultless}
 use Rattle.desk.specs.Steps.Selected.{IsItemOf, IsMarkOf, IsHoverOf, hover_row}
-use Rattle.machine.proofs.Listing.{relisted}
-use Rattle.machine.proofs.Members.{not_in_nil}
+use Rattle.streams.proofs.Members.{not_in_nil}
+use Rattle.dump.proofs.Listing.{same_listing as relisted}
 
 same_dump : (c d : DumpValue) → ◌≡◌ {A = Option DumpValue} (Some c) (Some d) → c ≡ d
 same_dump c d e = cc

@@ -4,7 +4,7 @@ use Rattle.std.specs.Prelude.{◌↔◌, Contains}
 use Rattle.std.proofs.lemmas.List.{map-append}
 use Rattle.std.proofs.lemmas.List.Elements.{Contains-append_left, Contains-append_right, Contains-push_cases}
 use Rattle.desk.proofs.Finding.{iff_trans}
-use Rattle.machine.proofs.Members.{contains_head, not_in_nil}
+use Rattle.streams.proofs.Members.{contains_head, not_in_nil}
 
 -- what one that is left makes
 abbrev pub IsLeft : {X V W : Type 0} → (X → V) → (V → W → Type 0) → List X → W → Type 0

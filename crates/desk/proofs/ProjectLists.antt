@@ -13,7 +13,7 @@ use Rattle.desk.specs.Steps.Listed.{projects_of}
 use Rattle.desk.specs.Steps.Plain.{Stands}
 use Rattle.desk.specs.declared.project.Project.{Project}
 use Rattle.machine.proofs.EntryLists.{entry_found, found_entry, rises_cons, rises_nil, rises_head, rises_tail}
-use Rattle.machine.proofs.Members.{contains_head, contains_tail, contains_cases, not_in_nil}
+use Rattle.streams.proofs.Members.{contains_head, contains_tail, contains_cases, not_in_nil}
 
 abbrev Entry : Type 0
 Entry = String Global × Project

@@ -13,7 +13,7 @@ use Rattle.machine.specs.Requests.{at_value}
 use Rattle.desk.specs.Steps.RowHovers.{RowHovers}
 use Rattle.desk.specs.Indexes.{AreFaultless}
 use Rattle.desk.specs.Steps.Rows.{IsAnsweringResult, IsPlaceOfOne, PicksIn}
-use Rattle.machine.proofs.Listing.{relisted}
+use Rattle.dump.proofs.Listing.{same_listing as relisted}
 use Rattle.desk.proofs.RowHoverWalks.{hovers_row}
 use Rattle.desk.proofs.RowWalks.{results_found}
 

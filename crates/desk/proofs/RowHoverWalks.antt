@@ -25,7 +25,7 @@ use Rattle.desk.specs.Steps.RowHovers.{HasContentsOf, IsLeast, RowHovers, joined
 use Rattle.desk.specs.Indexes.{AreFaultless}
 use Rattle.desk.specs.Steps.Rows.{HasRow, IsRowJoined, JoinedValue}
 use Rattle.desk.proofs.EdgeEnds.{first_line, moniker_ends}
-use Rattle.machine.proofs.Members.{flat_of}
+use Rattle.streams.proofs.Members.{flat_of}
 use Rattle.desk.proofs.RowWalks.{each_results, first_number, joined_from, joined_to, number_first, one_number, some_is}
 
 -- ---- a vertex's first hover result

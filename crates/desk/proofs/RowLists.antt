@@ -10,7 +10,7 @@ use Rattle.machine.specs.Reply.{FoundPlace}
 use Rattle.machine.specs.Steps.Places.{found_in}
 use Rattle.desk.specs.Steps.Rows.{AreJoined, AreKeys, IsAnsweringResult, IsKeyJoined, IsOwnResult, IsPlaceOf, IsPlaceOfOne, IsRolePlace, IsRowJoined, JoinedValue, OfBearer, ProjectResultValue, result_of_joined}
 use Rattle.desk.proofs.Finding.{iff_trans, or_step}
-use Rattle.machine.proofs.Members.{contains_cases, contains_head, contains_tail, not_in_nil}
+use Rattle.streams.proofs.Members.{contains_cases, contains_head, contains_tail, not_in_nil}
 
 module _ (m : State) (request : RequestKind) (own : List ℕ) (j : JoinedValue) where
   pub keys_more : (key : List ℕ) (rest : List (List ℕ)) → AreJoined m request own (key ∷ rest) j ↔ (IsKeyJoined m request own key j ⊎ AreJoined m request own rest j)

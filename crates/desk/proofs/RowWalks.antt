@@ -32,7 +32,7 @@ use Rattle.machine.specs.Reply.{FoundPlace}
 use Rattle.desk.specs.Indexes.{AreFaultless}
 use Rattle.desk.specs.Steps.Rows.{HasRow, IsAnsweringResult, IsPlaceOfOne, IsResultPlace, IsRowJoined, JoinedValue, PicksRow, ProjectResultValue, RowSpeaks}
 use Rattle.desk.proofs.EdgeEnds.{HasEnds, HasVertexLines, bears_line, result_line}
-use Rattle.machine.proofs.Members.{contains_head, contains_one, contains_tail}
+use Rattle.streams.proofs.Members.{contains_head, contains_one, contains_tail}
 use Rattle.desk.proofs.ResultKinds.{first_result}
 
 pub some_is : {X : Type 0} (x y : X) → Some x ≡ Some y → x ≡ y

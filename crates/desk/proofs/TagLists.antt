@@ -28,8 +28,9 @@ use Rattle.desk.specs.Steps.Plain.{Stands}
 use Rattle.machine.specs.declared.found.FoundTag as program
 use Rattle.desk.specs.declared.project.Project.{Project}
 use Rattle.machine.proofs.EntryLists.{entry_found, found_entry, rises_cons, rises_nil, rises_head, rises_tail, rises_append}
-use Rattle.machine.proofs.Listing.{rises_map}
-use Rattle.machine.proofs.Members.{contains_head, contains_tail, contains_cases, not_in_nil, and_both}
+use Rattle.streams.proofs.Members.{contains_head, contains_tail, contains_cases, not_in_nil}
+use Rattle.streams.proofs.Bools.{and_both}
+use Rattle.dump.proofs.Listing.{rises_map}
 use Rattle.machine.proofs.OneReplies.{line_total, name_total, then_equal}
 
 -- ---- the tags of one project

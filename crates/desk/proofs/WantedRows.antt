@@ -22,8 +22,9 @@ use Rattle.machine.specs.Selections.{MarkText, mark_text_cmp, BearerFound, beare
 use Rattle.tables.specs.Steps.Climbs.{IsCoverRow}
 use Rattle.desk.specs.Steps.Selected.{item_row, item_wanted, IsItemOf, mark_row, mark_wanted, IsMarkOf, hover_row, hover_wanted, IsHoverOf, bearer_wanted, bearer_in_cmp, IsBearerOf, range_wanted}
 use Rattle.machine.proofs.Covers.{covers_of, covers_from}
-use Rattle.machine.proofs.Listing.{eq_of, text_eq}
-use Rattle.machine.proofs.Members.{contains_head, contains_tail, contains_cases, not_in_nil, and_both, and_of}
+use Rattle.streams.proofs.Bools.{eq_of, and_both, and_of}
+use Rattle.streams.proofs.Lists.{text_eq}
+use Rattle.streams.proofs.Members.{contains_head, contains_tail, contains_cases, not_in_nil}
 
 -- what is wanted of a row gives the row back, and what is so is wanted of its row
 module _ {R V : Type 0} (wanted : R → Option V) (row : V → R) (IsSo : V → Type 0) (back : (r : R) (v : V) → wanted r ≡ Some v → (r ≡ row v) × IsSo v) (gives : (v : V) → IsSo v → wanted (row v) ≡ Some v) where

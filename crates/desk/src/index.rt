@@ -7,10 +7,13 @@ ghost use Rattle.desk.specs.declared.index.IndexFault.TheVariants.{Memory};
 
 use dump::{CheckedDump, Role};
 use flatten::FlattenFault;
-use lsif::{OUT_OF_MEMORY, Profile, RequestKind, STORE_REFUSED};
-use machine::{Covering, FoundBearer, FoundItem, FoundMark, FoundProject, FoundTag, TagsPart};
+use lsif::{Profile, RequestKind};
+use machine::{
+    Covering, FoundBearer, FoundItem, FoundMark, FoundProject, FoundTag, STORE_REFUSED, TagsPart,
+};
 use positions::Position;
 use std::alloc::{AllocError, Global};
+use streams::OUT_OF_MEMORY;
 use thiserror::Error;
 
 /// Why an index refuses: S01 and S02 of a reply.

@@ -15,14 +15,14 @@ use Rattle.dump.specs.Kinds.{is_document}
 use Rattle.dump.specs.Steps.Ids.{index_at, IsTable, entered, HasRows}
 use Rattle.dump.specs.Steps.Tables.{has_id}
 use Rattle.dump.specs.Steps.Links.{link_index, links, cell, link_at, is_link, named_by, is_named}
-use Rattle.dump.proofs.Bools.{and_both, not_false, or_none}
+use Rattle.streams.proofs.Bools.{and_both, not_false, or_none}
+use Rattle.streams.proofs.Members.{found_member}
+use Rattle.dump.proofs.SameIds.{same_id_eq}
 use Rattle.dump.proofs.Ends.{HasNoCode}
 use Rattle.dump.proofs.TablesAfter.{position_same, table_enters, named_test, same_link_after}
 use Rattle.dump.proofs.Known.{AreEndsKnown}
 use Rattle.dump.proofs.Cells.{nothing}
-use Rattle.dump.proofs.SameIds.{same_id_eq}
 use Rattle.dump.proofs.FirstIndices.{position-item, position-any}
-use Rattle.dump.proofs.Uniques.{found_member}
 
 -- ---- the indices of ids
 

@@ -15,9 +15,9 @@ use Rattle.dump.specs.declared.single.SingleLabel.{SingleLabel}
 use Rattle.dump.specs.declared.single.SingleLabel.TheVariants.{Next, PackageInformation, Request}
 use Rattle.dump.specs.Walks.{same_label}
 use Rattle.dump.specs.Steps.Links.{label_index, link_index, same_link, cell, link_at}
-use Rattle.dump.proofs.Bools.{and_both}
-use Rattle.dump.proofs.Repeats.{entered_more}
+use Rattle.streams.proofs.Bools.{and_both}
 use Rattle.dump.proofs.SameIds.{same_id_eq, same_id_self}
+use Rattle.dump.proofs.Repeats.{entered_more}
 use Rattle.dump.proofs.Slots.{entered_not}
 
 same_number : (m n : ℕ) → nat_eq m n ≡ true → m ≡ n

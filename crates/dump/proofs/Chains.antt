@@ -2,9 +2,9 @@
 use Rattle.std.proofs.Common.{◌≡◌, ◌⊎◌, inl, inr, ⊎_elim, ℕ, suc, ◌+◌, ◌<◌, ◌≤◌, Bool, true, false, not, cond, List, [], ◌∷◌, length, refl, sym, ap, ◌∙◌, subst, arith}
 use Rattle.std.specs.Prelude.{Option, Some, None, Contains, filter}
 use Rattle.lsif.specs.Element.{IdValue, same_id}
+use Rattle.streams.proofs.Members.{contains_cases, contains_head, contains_tail, not_in_nil}
 use Rattle.dump.proofs.SameIds.{same_id_eq}
 use Rattle.dump.specs.Walks.{Pair, first_to, first_of_list, IsChain, ends, links}
-use Rattle.dump.proofs.Members.{contains_cases, contains_head, contains_tail, not_in_nil}
 
 pub unique : (pairs : List Pair) (x : IdValue) (xs zs : List IdValue) → IsChain pairs x xs → IsChain pairs x zs → xs ≡ zs
 unique pairs x xs zs (ends e) (ends f) = refl

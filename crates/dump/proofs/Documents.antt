@@ -8,7 +8,8 @@ use Rattle.dump.specs.Graph.{vertex_at}
 use Rattle.dump.specs.Places.{HasDocument}
 use Rattle.dump.specs.Progress.{IsSound}
 use Rattle.dump.specs.Steps.Tables.{document_id}
-use Rattle.dump.proofs.Uniques.{found_member, member_found, vertex_is, one_document}
+use Rattle.streams.proofs.Members.{found_member, member_found}
+use Rattle.dump.proofs.Uniques.{vertex_is, one_document}
 
 pub document_is : (uri : List ℕ) (x : ElementValue) → is_document_of uri x ≡ true → x ≡ vertex (element_id x) (document uri)
 document_is uri (vertex i (document s)) e = ap (λ t. vertex i (document t)) ((bytes_eq-Decides s uri).0 e)

@@ -13,9 +13,9 @@ use Rattle.dump.specs.Conditions.{order_code, order_condition, has_used_id, join
 use Rattle.dump.specs.Ended.{is_bad_event}
 use Rattle.dump.specs.Progress as steps
 use Rattle.dump.specs.Progress.{running, advance, IsSound, Progress, stopped, progress}
-use Rattle.dump.proofs.Bools.{absurd_true}
+use Rattle.streams.proofs.Bools.{absurd_true}
+use Rattle.streams.proofs.Members.{contains_head, contains_tail, not_in_nil}
 use Rattle.dump.proofs.SameIds.{same_id_eq, same_id_self}
-use Rattle.dump.proofs.Members.{contains_head, contains_tail, not_in_nil}
 use Rattle.dump.proofs.Paths.{reaches_of}
 use Rattle.dump.proofs.Progresses.{stays_stopped}
 

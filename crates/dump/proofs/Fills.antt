@@ -13,14 +13,14 @@ use Rattle.dump.specs.Contained.{contains_range, spans_of, spans_named, spans_in
 use Rattle.dump.specs.Steps.Tables.{is_id, kept, IsFilled}
 use Rattle.dump.specs.Contained.{contains_source}
 use Rattle.dump.specs.Steps.Links.{ranges_in}
-use Rattle.dump.proofs.Bools.{and_both, not_false}
+use Rattle.streams.proofs.Bools.{and_both, not_false}
+use Rattle.streams.proofs.Members.{contains_head, contains_tail}
+use Rattle.dump.proofs.SameIds.{same_id_eq}
 use Rattle.dump.proofs.Conflicts.{conflict_of_both, has_conflict-permutation}
 use Rattle.dump.proofs.Ends.{HasNoCode}
 use Rattle.dump.proofs.Known.{AreEndsKnown}
 use Rattle.dump.proofs.Rows.{contains_fits}
-use Rattle.dump.proofs.Members.{contains_head, contains_tail}
 use Rattle.dump.proofs.Nests.{kept_vertex, vertex_there}
-use Rattle.dump.proofs.SameIds.{same_id_eq}
 
 -- ---- the ranges of an element
 

@@ -6,7 +6,7 @@ use Rattle.lsif.specs.Element.{ElementValue, element_value}
 use Rattle.dump.specs.declared.fault.LineFault.{LineFault}
 use Rattle.dump.specs.Conditions.{end_code}
 use Rattle.dump.specs.Progress.{end_fault_from}
-use Rattle.dump.proofs.Lists.{drop_next, drop_end}
+use Rattle.streams.proofs.Lists.{drop_next, drop_end}
 
 abbrev pub fault_from : List ElementValue → List Element → ℕ → Option LineFault
 fault_from d xs k = end_fault_from d k (map element_value (drop k xs))

@@ -3,7 +3,7 @@ use Rattle.std.proofs.Common.{◌≡◌, ◌∙◌, ◌++◌, ◌∷◌, [], ◌
 use Rattle.std.proofs.lemmas.List.Sums.{fold-append}
 use Rattle.std.proofs.lemmas.Bool.{lt-ltb}
 use Rattle.lsif.specs.Element.{ElementValue, Reading, element_value, reading_value}
-use Rattle.lsif.specs.Lines.{GivesLine, HasLongLine, LineBufferValue}
+use Rattle.streams.specs.Lines.{GivesLine, HasLongLine, LineBufferValue}
 use Rattle.lsif.specs.Reading.{reading, longest_line}
 use Rattle.lsif.specs.declared.profile.Profile.{Profile}
 use Rattle.lsif.specs.declared.element.Element.{Element}

@@ -14,11 +14,10 @@ use Rattle.dump.specs.Ended.{finishes, has_begun, has_ended, closes_range, is_cl
 use Rattle.dump.specs.Steps.Tables.{is_id, passes}
 use Rattle.dump.specs.Contained.{contains_source, container}
 use Rattle.dump.specs.Progress.{IsSound}
-use Rattle.dump.proofs.Bools.{or_none, or_some, and_both, and_rest, not_false, and_of, same_bool, absurd_true}
+use Rattle.streams.proofs.Bools.{or_none, or_some, and_both, and_rest, not_false, and_of, same_bool, absurd_true}
+use Rattle.streams.proofs.Members.{contains_head, contains_tail, contains_cases, not_in_nil, any_from, found_member}
 use Rattle.dump.proofs.SameIds.{same_id_eq, same_id_self}
-use Rattle.dump.proofs.Members.{contains_head, contains_tail, contains_cases, not_in_nil}
 use Rattle.dump.proofs.Nests.{kept_vertex, vertex_there}
-use Rattle.dump.proofs.Uniques.{any_from, found_member}
 use Rattle.dump.proofs.Ends.{HasNoCode, holds}
 
 -- ---- ends are vertices

@@ -6,7 +6,7 @@ use Rattle.dump.specs.declared.single.SingleLabel.{SingleLabel}
 use Rattle.dump.specs.declared.single.SingleLabel.TheVariants.{Next}
 use Rattle.dump.specs.Walks.{Pair, same_label, single_of, single_in, next_pairs, IsChain, ends, links, first_to, Path, stays, goes}
 use Rattle.dump.proofs.Chains.{chain_head}
-use Rattle.dump.proofs.Members.{contains_cases, contains_tail, not_in_nil}
+use Rattle.streams.proofs.Members.{contains_cases, contains_tail, not_in_nil}
 use Rattle.dump.proofs.Ends.{Single}
 
 pub single_count : (label : SingleLabel) (x : ElementValue) → length (single_in label x) ≤ 1

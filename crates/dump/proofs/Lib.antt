@@ -1,5 +1,4 @@
 pub mod Adds
-pub mod Bools
 pub mod Cells
 pub mod Chains
 pub mod Conflicts
@@ -15,8 +14,6 @@ pub mod Known
 pub mod Leads
 pub mod Lines
 pub mod Listing
-pub mod Lists
-pub mod Members
 pub mod Merges
 pub mod Nests
 pub mod OnePicks

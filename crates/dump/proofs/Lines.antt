@@ -8,14 +8,14 @@ use Rattle.dump.specs.Graph.{vertex_at, ends, line_of}
 use Rattle.dump.specs.Progress.{IsSound}
 use Rattle.dump.specs.Walks.{IsChain, next_pairs}
 use Rattle.dump.proofs.Adds.{found_index}
-use Rattle.dump.proofs.Bools.{and_both}
+use Rattle.streams.proofs.Bools.{and_both}
+use Rattle.streams.proofs.Members.{contains_cases, not_in_nil}
+use Rattle.dump.proofs.Uniques.{each_unique, vertex_member}
 use Rattle.dump.proofs.Chains.{short}
 use Rattle.dump.proofs.Known.{ends_known}
 use Rattle.dump.proofs.Leads.{few_pairs}
-use Rattle.dump.proofs.Members.{contains_cases, not_in_nil}
 use Rattle.dump.proofs.Nests.{vertex_there}
 use Rattle.dump.proofs.Shortcuts.{has_index, one_index}
-use Rattle.dump.proofs.Uniques.{each_unique, vertex_member}
 
 -- ---- ends
 

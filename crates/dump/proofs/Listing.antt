@@ -1,7 +1,6 @@
 -- A sort and a `dedup` leave the list of the set of what was there.
 use Rattle.std.proofs.Common.{◌≡◌, Bool, true, List, [], ◌∷◌, map, sym, ◌∙◌, subst}
-use Rattle.std.specs.Prelude.{◌↔◌, T, ℕ, Contains, ◌==◌}
-use Rattle.std.proofs.Math.Dec.{eqb→eq}
+use Rattle.std.specs.Prelude.{◌↔◌, Contains}
 use Rattle.std.specs.List.{AllByRecursion, dedup}
 use Rattle.std.specs.Cmp.{IsTotalOrder, IsEquivalence}
 use Rattle.std.specs.Ordering.{eq_by_cmp}
@@ -12,7 +11,7 @@ use Rattle.std.proofs.lemmas.Cmp.{eq_by_cmp_equiv}
 use Rattle.std.proofs.lemmas.List.Kept.{IsStrictlySortedBy-dedup, Any-dedup, Contains-from_dedup}
 use Rattle.std.proofs.lemmas.List.Sorted.{Contains-permutation, IsPermutation-sym}
 use Rattle.dump.specs.Places.{IsListing}
-use Rattle.dump.proofs.Members.{contains_map, map_source}
+use Rattle.streams.proofs.Members.{contains_map, map_source}
 
 abbrev pub under : {X Y : Type 0} → (X → Y) → (Y → Y → Ordering) → X → X → Ordering
 under f R a b = R (f a) (f b)
@@ -52,6 +51,3 @@ module _ {X Y : Type 0} (f : X → Y) (R : Y → Y → Ordering) (o : IsTotalOrd
 -- the list of the same set
 pub same_listing : {X : Type 0} (cmp : X → X → Ordering) (P Q : X → Type 0) (xs : List X) → ((x : X) → P x ↔ Q x) → IsListing cmp P xs → IsListing cmp Q xs
 same_listing cmp P Q xs same l = record { rises = l.rises; each = λ x. (λ at. (same x).0 ((l.each x).0 at), λ q. (l.each x).1 ((same x).1 q)) }
-
-pub eq_of : (x y : ℕ) → (x == y) ≡ true → x ≡ y
-eq_of x y e = eqb→eq x y (subst T (sym e) tt)

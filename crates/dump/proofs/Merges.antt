@@ -10,7 +10,7 @@ use Rattle.std.proofs.lemmas.List.Sorted.{IsPermutation-trans, IsPermutation-sym
 use Rattle.std.proofs.lemmas.Option.{slice_get-get_or}
 use Rattle.positions.specs.Span.{SpanValue}
 use Rattle.dump.specs.Steps.Spans.{span_order, IsOrdered, goes_first}
-use Rattle.dump.proofs.Bools.{not_false}
+use Rattle.streams.proofs.Bools.{not_false}
 use Rattle.dump.proofs.Passes.{not_true, span_total}
 
 -- nothing left of the list from the index on comes before the last span

@@ -11,9 +11,9 @@ use Rattle.dump.specs.Kinds.{is_document}
 use Rattle.dump.specs.Contained.{places_range, spans_of, spans_named, spans_in, conflicts, any_conflicts, has_conflict, IsNested}
 use Rattle.dump.specs.Conditions.{are_vertices, may_not_join}
 use Rattle.dump.specs.Progress.{IsSound}
-use Rattle.dump.proofs.Bools.{or_none, or_some, and_both, and_rest, not_false}
-use Rattle.dump.proofs.Rows.{contains_fits}
+use Rattle.streams.proofs.Bools.{or_none, or_some, and_both, and_rest, not_false}
 use Rattle.dump.proofs.SameIds.{same_id_eq}
+use Rattle.dump.proofs.Rows.{contains_fits}
 use Rattle.dump.proofs.Ends.{HasNoCode, holds}
 
 -- a `contains` edge out of this vertex names the range

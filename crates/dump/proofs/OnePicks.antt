@@ -17,7 +17,7 @@ use Rattle.dump.specs.declared.single.SingleLabel.TheVariants.{Request}
 use Rattle.dump.specs.Requests.{RangeValue, IsWithin, Cover, First, IsFirst, nobody, here, later, Pick, Speaks}
 use Rattle.dump.specs.Walks.{first_of_list, single_pairs, next_pairs}
 use Rattle.dump.proofs.Chains.{unique}
-use Rattle.dump.proofs.Members.{contains_head, contains_tail, contains_cases, not_in_nil}
+use Rattle.streams.proofs.Members.{contains_head, contains_tail, contains_cases, not_in_nil}
 
 -- ---- one list of a set
 

@@ -1,6 +1,6 @@
 -- In a sound dump a request's first result is of its kind, and one of another request than
 -- references leads to no other result.
-use Rattle.std.proofs.Common.{◌≡◌, ⊎_elim, ◌∙◌, ◌||◌, ◌++◌, ◌∷◌, [], ℕ, ◌+◌, not, Bool, true, false, List, map, refl, sym, ap, subst, Option, Some, None, is_some}
+use Rattle.std.proofs.Common.{◌≡◌, ⊎_elim, ◌∙◌, ◌||◌, ◌++◌, ◌∷◌, [], ℕ, not, Bool, true, false, List, map, refl, sym, ap, subst, Option, Some, None, is_some}
 use Rattle.std.specs.Prelude.{Contains, ◌↔◌, if◌then◌else◌}
 use Rattle.std.specs.List.{flat_map, list_any}
 use Rattle.std.proofs.lemmas.List.Elements.{Contains-push_cases, Contains-append_cases}
@@ -23,9 +23,9 @@ use Rattle.lsif.specs.declared.request_kind.RequestKind.TheVariants as requests
 use Rattle.dump.specs.declared.role.Role.{Role}
 use Rattle.dump.specs.Requests.{First}
 use Rattle.dump.specs.Places.{PlaceValue, joined_results, result_pairs_of, result_pairs, IsItemPlace, Places}
-use Rattle.dump.proofs.Bools.{and_both, not_false, or_false, or_left, or_right, or_some}
+use Rattle.streams.proofs.Bools.{and_both, not_false, or_false, or_left, or_right, or_some}
+use Rattle.streams.proofs.Members.{contains_head, contains_tail, contains_cases, not_in_nil}
 use Rattle.dump.proofs.Rows.{kind_known, target_fits}
-use Rattle.dump.proofs.Members.{contains_head, contains_tail, contains_cases, not_in_nil}
 use Rattle.dump.proofs.Nests.{kept_vertex, vertex_there}
 use Rattle.dump.proofs.Ends.{HasNoCode, holds, pair_of_first}
 

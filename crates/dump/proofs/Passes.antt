@@ -11,7 +11,7 @@ use Rattle.positions.specs.Span.{SpanValue, nests, overlaps}
 use Rattle.dump.specs.Contained.{conflicts}
 use Rattle.dump.specs.Places.{position_cmp}
 use Rattle.dump.specs.Steps.Spans.{span_order, IsOrdered}
-use Rattle.dump.proofs.Bools.{not_false}
+use Rattle.streams.proofs.Bools.{not_false}
 use Rattle.dump.proofs.Nests.{equal_positions}
 
 -- ---- positions

@@ -2,10 +2,10 @@
 use Rattle.std.proofs.Common.{◌≡◌, ⊎_elim, true, ◌&&◌, List, [], ◌∷◌, sym, ap, subst}
 use Rattle.std.specs.Prelude.{IsTrue, Contains, ◌↔◌}
 use Rattle.lsif.specs.Element.{IdValue, same_id}
-use Rattle.dump.proofs.Bools.{or_some, and_both, and_of, or_left, or_right}
+use Rattle.streams.proofs.Bools.{or_some, and_both, and_of, or_left, or_right}
+use Rattle.streams.proofs.Members.{contains_cases, contains_head, contains_tail, not_in_nil}
 use Rattle.dump.proofs.SameIds.{same_id_eq, same_id_self}
 use Rattle.dump.specs.Walks.{Pair, Path, stays, goes, reaches}
-use Rattle.dump.proofs.Members.{contains_cases, contains_head, contains_tail, not_in_nil}
 
 pub wider : (ps qs : List Pair) → ((q : Pair) → Contains ps q → Contains qs q) → (x y : IdValue) → Path ps x y → Path qs x y
 wider ps qs sub x y stays = stays

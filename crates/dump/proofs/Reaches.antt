@@ -8,7 +8,8 @@ use Rattle.std.proofs.lemmas.List.Folds.{list_any_at, list_any-append}
 use Rattle.std.proofs.lemmas.List.Concat.{flat_map-append}
 use Rattle.std.specs.List.Sorted.{IsPartitionedBy}
 use Rattle.std.proofs.lemmas.List.Sorted.{sorted_far, ranks_by, IsPermutation-trans, IsPermutation-append_right, list_any-IsPermutation}
-use Rattle.dump.proofs.Lists.{drop_next, drop_end}
+use Rattle.streams.proofs.Lists.{drop_next, drop_end}
+use Rattle.streams.proofs.Bools.{and_both, or_none, not_false, absurd_true, or_left}
 use Rattle.positions.specs.Position.{PositionValue, is_before}
 use Rattle.positions.specs.Span.{SpanValue, nests, overlaps}
 use Rattle.dump.specs.Contained.{conflicts, any_conflicts, has_conflict}
@@ -16,7 +17,6 @@ use Rattle.dump.specs.declared.sorted_spans.Link.{Link}
 use Rattle.dump.specs.Steps.Spans.{span_order, GoesOn, IsOrdered, HasLinks, JumpsTo, TwoJumps, goes_by, conflicts_before, joined}
 use Rattle.dump.proofs.Conflicts.{has_conflict-append, has_conflict-permutation}
 use Rattle.dump.proofs.Merges.{not_both}
-use Rattle.dump.proofs.Bools.{and_both, or_none, not_false, absurd_true, or_left}
 use Rattle.dump.proofs.Nests.{equal_positions, either_conflict}
 use Rattle.dump.proofs.Passes.{not_true, at_most, less_at_most, one_way, NotAfter, not_after, each_not_after, same_position, apart_no_nests, plain_conflict, overlap_apart, first_end, reaches, true_is, span_total}
 

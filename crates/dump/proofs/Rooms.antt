@@ -4,8 +4,8 @@ use Rattle.lsif.specs.Element.{ElementValue}
 use Rattle.lsif.specs.declared.code.Code.TheVariants.{L20}
 use Rattle.dump.specs.Conditions.{order_condition, order_codes, order_code, is_past_limit, most_elements}
 use Rattle.dump.proofs.Adds.{find_any}
-use Rattle.dump.proofs.Bools.{absurd_true}
-use Rattle.dump.proofs.Uniques.{any_from}
+use Rattle.streams.proofs.Bools.{absurd_true}
+use Rattle.streams.proofs.Members.{any_from}
 
 room_by : (elements : List ElementValue) (x : ElementValue) → find (order_condition elements x) order_codes ≡ None → (b : Bool) → is_past_limit elements ≡ b → length elements < most_elements
 room_by elements x none true e =

@@ -7,7 +7,7 @@ use Rattle.dump.specs.declared.vertices.Kind.TheVariants.{Any, Project, Document
 use Rattle.dump.specs.Conditions.{are_vertices, fits_row, may_not_join}
 use Rattle.dump.specs.Graph.{vertex_at}
 use Rattle.dump.specs.Kinds.{Row, is_of_kind, is_document, rows_of}
-use Rattle.dump.proofs.Bools.{and_both, and_of, not_false, or_false, or_some}
+use Rattle.streams.proofs.Bools.{and_both, and_of, not_false, or_false, or_some}
 
 -- ---- a vertex of a kind is a vertex
 

@@ -18,16 +18,16 @@ use Rattle.dump.specs.Steps.Links.{is_single, single_target}
 use Rattle.dump.specs.Progress.{IsSound}
 use Rattle.dump.specs.Walks.{Pair, Path, stays, goes, first_to, reaches, IsChain, ends as chain_ends, links, same_label, next_pairs, single_of, single_in}
 use Rattle.dump.proofs.Adds.{found_index, vertex_index, find_any}
-use Rattle.dump.proofs.Bools.{and_both, not_false, same_bool, absurd_true}
+use Rattle.streams.proofs.Bools.{and_both, not_false, same_bool, absurd_true}
+use Rattle.streams.proofs.Members.{found_member}
+use Rattle.dump.proofs.SameIds.{same_id_eq, same_id_self}
 use Rattle.dump.proofs.Cells.{nothing}
 use Rattle.dump.proofs.Chains.{suffix, short, no_chain}
 use Rattle.dump.proofs.Ends.{Single, HasNoCode, each_ends, first_none, first_more, pairs_more, pair_of_first}
 use Rattle.dump.proofs.Known.{AreEndsKnown}
 use Rattle.dump.proofs.Leads.{on_chain}
 use Rattle.dump.proofs.Paths.{wider, joined, path_of, reaches_of}
-use Rattle.dump.proofs.SameIds.{same_id_eq, same_id_self}
 use Rattle.dump.proofs.FirstIndices.{position-any, position_hit, position_miss, position_kept, first_to-single}
-use Rattle.dump.proofs.Uniques.{found_member}
 
 none_some : {P : Type 0} (o : Option IdValue) (y : IdValue) → o ≡ None → o ≡ Some y → P
 none_some None y e f = cc

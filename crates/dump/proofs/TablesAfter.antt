@@ -1,5 +1,5 @@
 -- What tables say of elements, and what an element more makes of them.
-use Rattle.std.proofs.Common.{◌≡◌, ◌∙◌, ◌&&◌, ◌||◌, ◌+◌, ◌<◌, ◌++◌, ◌∷◌, [], ℕ, Bool, true, false, cond, List, length, refl, sym, ap, Option, Some, None, option_and_then, is_some, if◌then◌else◌}
+use Rattle.std.proofs.Common.{◌≡◌, ◌∙◌, ◌&&◌, ◌||◌, ◌+◌, ◌++◌, ◌∷◌, [], ℕ, Bool, true, false, cond, List, length, refl, sym, ap, Option, Some, None, option_and_then, is_some, if◌then◌else◌}
 use Rattle.std.specs.Prelude.{Contains, option_map}
 use Rattle.std.specs.List.{list_any, position}
 use Rattle.lsif.specs.Element.{IdValue, same_id, meta_data, project, document, range, result_set, request_result, hover_result, moniker, package_information, event, other_vertex, begin_event, end_event, other_event, contains, next, request_edge, moniker_edge, package_edge, attach, item, other_edge, ElementValue, vertex, edge}
@@ -16,7 +16,7 @@ use Rattle.dump.specs.Steps.Links.{is_single, is_link, named_by, is_named}
 use Rattle.dump.specs.Walks.{same_label}
 use Rattle.dump.proofs.Fills.{ranges_test}
 use Rattle.dump.proofs.Known.{same_contained}
-use Rattle.dump.proofs.Members.{contains_head, contains_tail}
+use Rattle.streams.proofs.Members.{contains_head, contains_tail}
 use Rattle.dump.proofs.Documents.{document_is}
 use Rattle.dump.proofs.FirstIndices.{position-cons, position_hit, position_miss, position_kept, position-any}
 

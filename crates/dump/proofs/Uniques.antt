@@ -1,5 +1,5 @@
 -- In a sound dump an id is that of one element, and a uri is that of one document.
-use Rattle.std.proofs.Common.{◌≡◌, inl, inr, ⊎_elim, ◌∙◌, ℕ, Bool, true, false, cond, List, [], ◌∷◌, ◌++◌, find, refl, sym, ap, subst}
+use Rattle.std.proofs.Common.{◌≡◌, inl, inr, ◌∙◌, ℕ, Bool, true, false, List, [], ◌∷◌, ◌++◌, refl, sym, ap, subst}
 use Rattle.std.specs.Prelude.{◌↔◌, Contains, Option, Some, None, is_some, option_and_then}
 use Rattle.std.specs.List.{list_any}
 use Rattle.std.proofs.lemmas.List.Elements.{Contains-push_cases}
@@ -8,38 +8,9 @@ use Rattle.lsif.specs.Element.{IdValue, same_id, VertexValue, document, ElementV
 use Rattle.dump.specs.Graph.{element_at, vertex_of, vertex_at}
 use Rattle.dump.specs.Conditions.{is_document_of, has_used_uri}
 use Rattle.dump.specs.Progress.{IsSound}
-use Rattle.dump.proofs.Bools.{or_left, or_right}
+use Rattle.streams.proofs.Members.{any_from, found_member, member_found, not_in_nil}
 use Rattle.dump.proofs.SameIds.{same_id_eq, same_id_self}
-use Rattle.dump.proofs.Members.{contains_head, contains_tail, contains_cases, not_in_nil}
 use Rattle.dump.proofs.Ends.{HasNoCode, holds}
-
--- ---- members that pass a test
-
-pub any_from : {X : Type 0} (p : X → Bool) (xs : List X) (x : X) → Contains xs x → p x ≡ true → list_any p xs ≡ true
-any_from p [] x at e = absurd (not_in_nil x at)
-any_from p (y ∷ xs) x at e = ⊎_elim (λ (s : y ≡ x). or_left (p y) (list_any p xs) (ap p s ∙ e)) (λ (t : Contains xs x). or_right (p y) (list_any p xs) (any_from p xs x t e)) (contains_cases y xs x at)
-
-find_by : {X : Type 0} (p : X → Bool) (x : X) (xs : List X) (y : X) → (find p xs ≡ Some y → Contains xs y × (p y ≡ true)) → (b : Bool) → p x ≡ b → cond b (Some x) (find p xs) ≡ Some y → Contains (x ∷ xs) y × (p y ≡ true)
-find_by p x xs y rest true passes e = let same : x ≡ y = cc in (subst (Contains (x ∷ xs)) same (contains_head x xs), subst (λ z. p z ≡ true) same passes)
-find_by p x xs y rest false passes e = let r = rest e in (contains_tail x xs y r.0, r.1)
-
--- what is found is a member that passes
-pub found_member : {X : Type 0} (p : X → Bool) (xs : List X) (y : X) → find p xs ≡ Some y → Contains xs y × (p y ≡ true)
-found_member p [] y e = cc
-found_member p (x ∷ xs) y e = find_by p x xs y (found_member p xs y) (p x) refl e
-
-here_or : {X : Type 0} (x : X) (o : Option X) (b : Bool) → b ≡ true → (y : X) × (cond b (Some x) o ≡ Some y)
-here_or x o true e = (x, refl)
-here_or x o false e = cc
-
-later_or : {X : Type 0} (x : X) (o : Option X) (b : Bool) → (y : X) × (o ≡ Some y) → (y : X) × (cond b (Some x) o ≡ Some y)
-later_or x o true found = (x, refl)
-later_or x o false found = found
-
--- where a member passes, one is found
-pub member_found : {X : Type 0} (p : X → Bool) (xs : List X) (x : X) → Contains xs x → p x ≡ true → (y : X) × (find p xs ≡ Some y)
-member_found p [] x at e = absurd (not_in_nil x at)
-member_found p (z ∷ xs) x at e = ⊎_elim (λ (s : z ≡ x). here_or z (find p xs) (p z) (ap p s ∙ e)) (λ (t : Contains xs x). later_or z (find p xs) (p z) (member_found p xs x t e)) (contains_cases z xs x at)
 
 some_not_none : {X : Type 0} (o : Option X) (y : X) → o ≡ Some y → is_some o ≡ false → ⊥
 some_not_none None y e f = cc

@@ -1,7 +1,7 @@
 -- The dump that a text is, read by a profile (LSIF 0.6.0: one element on each line).
 use Rattle.std.specs.Prelude.{ℕ, List, map}
 use Rattle.lsif.specs.Element.{Reading}
-use Rattle.lsif.specs.Lines.{lines_of}
+use Rattle.streams.specs.Lines.{lines_of}
 use Rattle.lsif.specs.Reading.{reading}
 use Rattle.lsif.specs.declared.profile.Profile.{Profile}
 

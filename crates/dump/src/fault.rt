@@ -3,8 +3,9 @@
 ghost use Rattle.std.specs.Prelude.{◌≡◌};
 ghost use Rattle.dump.specs.declared.fault.FeedFault.TheVariants.{Memory};
 
-use lsif::{Code, OUT_OF_MEMORY};
+use lsif::Code;
 use std::alloc::{AllocError, AllocFailed};
+use streams::OUT_OF_MEMORY;
 use thiserror::Error;
 
 /// What is wrong with a dump: a line, counted from 1, and its code.

@@ -5,20 +5,18 @@ ghost use Rattle.std.specs.Result.{ForErr};
 ghost use Rattle.lsif.specs.Code.{is_shape_code};
 ghost use Rattle.lsif.specs.Element.{reading_value};
 ghost use Rattle.lsif.specs.Reading.{longest_line, reading};
-ghost use Rattle.lsif.specs.Buffered.{unread};
+ghost use Rattle.streams.specs.Buffered.{unread};
 ghost use Rattle.dump.specs.Judging.{CountsRead, IsHanded, ReadsDump, as_dump_fault};
 ghost use Rattle.dump.specs.Progress.{running};
 ghost use Rattle.dump.specs.Steps.Judging.{GoesOn, HasTakenAll, IsOutside, IsReady, ReadsNext};
-ghost use Rattle.lsif.specs.Streams.{IsCountable};
+ghost use Rattle.streams.specs.Streams.{IsCountable};
 
 use crate::checker::{CheckedDump, Checker};
 use crate::fault::{FeedFault, LineFault};
 use crate::laws::fault_law;
-use lsif::{
-    CANNOT_READ, Code, Element, LONGEST_LINE, LineBuffer, LinesFault, OUT_OF_MEMORY, Profile,
-    ReadFault, Source, read_element,
-};
+use lsif::{Code, Element, LONGEST_LINE, Profile, ReadFault, read_element};
 use std::alloc::{AllocError, Global};
+use streams::{CANNOT_READ, LineBuffer, LinesFault, OUT_OF_MEMORY, Source};
 use thiserror::Error;
 
 /// Why a reader's bytes give no dump.

@@ -11,8 +11,8 @@ use Rattle.lsif.specs.declared.request_kind.RequestKind.{RequestKind}
 use Rattle.dump.specs.Walks.{Pair, IsChain, ends, links, first_to, first_of_list, next_pairs, single_in, single_pairs}
 use Rattle.flatten.specs.Flat.{AreResults, number_of}
 use Rattle.flatten.specs.Steps.Chains.{AlongValue, AreAlong, AreFound, IsAfter, IsWalkBack, Leads, VertexAlongValue, first_by, nothing, or_later, own_number, own_of, own_result}
-use Rattle.flatten.proofs.Listing.{eq_of}
-use Rattle.flatten.proofs.Members.{contains_cases, contains_head, contains_one, contains_tail, not_in_nil}
+use Rattle.streams.proofs.Bools.{eq_of}
+use Rattle.streams.proofs.Members.{contains_cases, contains_head, contains_one, contains_tail, not_in_nil}
 use Rattle.dump.proofs.Ends.{pair_of_first}
 use Rattle.flatten.proofs.NumberPairs.{AreOnes, HasEnds, HasNumber, HasVertexNumbers, have_numbers, single_ends}
 

@@ -15,7 +15,7 @@ use Rattle.std.specs.Ordering.{nat_cmp}
 use Rattle.flatten.specs.Reached.{IsReached}
 use Rattle.flatten.specs.Steps.Found.{Gains}
 use Rattle.flatten.proofs.Gaining.{gains_front}
-use Rattle.flatten.proofs.Members.{contains_map, contains_one, map_source, one_contains, filter_keeps, filter_source}
+use Rattle.streams.proofs.Members.{contains_map, contains_one, map_source, one_contains, filter_keeps, filter_source}
 
 -- what is found is reached, and what the pairs join to the first so many of it is found
 pub record Going (starts : List ℕ) (pairs : List (ℕ × ℕ)) (found : List ℕ) (done : ℕ) : Type 0 where

@@ -11,8 +11,8 @@ use Rattle.dump.specs.Graph.{vertex_at}
 use Rattle.dump.specs.Places.{HasDocument, IsListing}
 use Rattle.flatten.specs.Flat.{HoverRowValue, IsHoverRow, by_result, number_of}
 use Rattle.flatten.specs.Steps.Documents.{documents_in, hover_with, hovers_in}
+use Rattle.streams.proofs.Members.{contains_head, contains_one, flat_of, flat_from, not_in_nil, one_contains}
 use Rattle.flatten.proofs.Listing.{rises_unmap}
-use Rattle.flatten.proofs.Members.{contains_head, contains_one, flat_of, flat_from, not_in_nil, one_contains}
 use Rattle.flatten.proofs.Rising.{SaysNumber, rises}
 
 map_flat : {X Y Z : Type 0} (f : Y → Z) (g : X → List Y) (xs : List X) → map f (flat_map g xs) ≡ flat_map (λ x. map f (g x)) xs

@@ -6,7 +6,7 @@ use Rattle.std.proofs.lemmas.List.{take_more, map_more, get_or_append_left, take
 use Rattle.std.proofs.lemmas.List.Elements.{Contains-append_left, Contains-append_right, Contains-append_cases}
 use Rattle.std.proofs.lemmas.Map.Views.{Contains-from_any, exact_unsigned_eq}
 use Rattle.flatten.specs.Steps.Found.{Gains}
-use Rattle.flatten.proofs.Members.{not_in_nil, contains_one}
+use Rattle.streams.proofs.Members.{not_in_nil, contains_one}
 
 pub not_false : (b : Bool) → not b ≡ false → b ≡ true
 not_false true e = refl

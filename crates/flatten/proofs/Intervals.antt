@@ -20,7 +20,7 @@ use Rattle.dump.specs.Contained.{IsNested, conflicts, container, is_in}
 use Rattle.dump.specs.Places.{IsListing}
 use Rattle.flatten.specs.Flat.{IsParent, LiesIn, number_of}
 use Rattle.flatten.specs.Steps.Parents.{IntervalValue, AreLinks, AreParents, AreIntervals, Follows, IsInside, IsLinkPair, IsOpenBefore, IsInterval, IsWithinLimit, interval_at, interval_by, interval_cmp, interval_of, intervals_in}
-use Rattle.flatten.proofs.Members.{flat_of, flat_from, not_in_nil}
+use Rattle.streams.proofs.Members.{flat_of, flat_from, not_in_nil}
 use Rattle.flatten.proofs.NumberPairs.{AreOnes, HasVertexNumbers, in_one, one_in}
 use Rattle.flatten.proofs.OpenIntervals.{apart, around_before}
 

@@ -18,8 +18,8 @@ use Rattle.flatten.specs.Steps.Items.{AddsListing, AreNumberedRows, IsReachedRow
 use Rattle.flatten.specs.Steps.Numbers.{one_or_none}
 use Rattle.flatten.specs.Steps.Places.{IsNumbered, by_numbers, place_value}
 use Rattle.flatten.specs.Steps.Tables.{Adds, OfOne}
-use Rattle.flatten.proofs.Listing.{same_listing}
-use Rattle.flatten.proofs.Members.{contains_cases, contains_head, contains_one, contains_tail, not_in_nil}
+use Rattle.streams.proofs.Members.{contains_cases, contains_head, contains_one, contains_tail, not_in_nil}
+use Rattle.dump.proofs.Listing.{same_listing}
 use Rattle.flatten.proofs.Rising.{SaysNumber, rises}
 
 -- ---- lists in order

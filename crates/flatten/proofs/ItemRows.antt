@@ -22,7 +22,7 @@ use Rattle.flatten.specs.Steps.Places.{IsNumbered, place_value, placed_value, pl
 use Rattle.flatten.specs.Steps.Tables.{OfOne, container_uri, place_by, place_of, place_with}
 use Rattle.flatten.specs.declared.places.Place.{Place}
 use Rattle.flatten.proofs.Closures.{wider}
-use Rattle.flatten.proofs.Members.{contains_map, contains_one, filter_keeps, filter_source, flat_of, flat_from, if_in, in_if, map_source, not_in_nil, one_contains}
+use Rattle.streams.proofs.Members.{contains_map, contains_one, filter_keeps, filter_source, flat_of, flat_from, if_in, in_if, map_source, not_in_nil, one_contains}
 use Rattle.flatten.proofs.NumberPairs.{AreOnes, HasEnds, HasVertexNumbers, are_numbers, have_numbers, in_one, one_in, path_on, path_to, result_ends}
 use Rattle.flatten.proofs.RangeRows.{HasContainers, at_of, uri_of_at}
 

@@ -8,7 +8,6 @@ pub mod ItemRows
 pub mod KeyLemmas
 pub mod Listing
 pub mod MarkRows
-pub mod Members
 pub mod NumberPairs
 pub mod OfKinds
 pub mod OpenIntervals

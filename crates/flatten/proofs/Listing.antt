@@ -9,9 +9,9 @@ use Rattle.std.proofs.lemmas.List.{append_assoc, get_or-map, length-map, take_al
 use Rattle.std.proofs.lemmas.List.Elements.{All-contains, Contains-append_left, Contains-append_right, Contains-append_cases, Contains-push_cases}
 use Rattle.std.proofs.lemmas.List.Sorted.{Contains-permutation, IsPermutation-sym}
 use Rattle.dump.specs.Places.{IsListing}
-pub use Rattle.dump.proofs.Listing.{eq_of, same_listing, sorted_listing, under}
+use Rattle.streams.proofs.Members.{contains_head, map_source, not_in_nil}
+use Rattle.dump.proofs.Listing.{same_listing, under}
 use Rattle.flatten.specs.Steps.Tables.{Adds, OfOne}
-use Rattle.flatten.proofs.Members.{contains_head, map_source, not_in_nil}
 
 -- ---- rows that are added
 

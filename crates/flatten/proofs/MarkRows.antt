@@ -23,8 +23,9 @@ use Rattle.std.proofs.lemmas.List.{append_assoc, map-append, reverse-append, rev
 use Rattle.std.proofs.lemmas.List.Elements.{Contains-append_right}
 use Rattle.flatten.proofs.ChainWalks.{back_push, one_chain, some_member}
 use Rattle.flatten.proofs.Closures.{wider}
-use Rattle.flatten.proofs.Listing.{adds_are, adds_list, eq_of, keyed_listing, permuted}
-use Rattle.flatten.proofs.Members.{contains_cases, contains_head, contains_map, contains_one, contains_tail, filter_keeps, filter_source, flat_of, flat_from, map_source, not_in_nil, one_contains}
+use Rattle.streams.proofs.Bools.{eq_of}
+use Rattle.streams.proofs.Members.{contains_cases, contains_head, contains_map, contains_one, contains_tail, filter_keeps, filter_source, flat_of, flat_from, map_source, not_in_nil, one_contains}
+use Rattle.flatten.proofs.Listing.{adds_are, adds_list, keyed_listing, permuted}
 use Rattle.flatten.proofs.NumberPairs.{AreOnes, HasEnds, HasVertexNumbers, are_numbers, attach_ends, both_of, have_numbers, moniker_ends, path_on, path_to}
 use Rattle.flatten.proofs.RangeRows.{AreFirsts, results_one}
 use Rattle.flatten.proofs.Tables.{table_from, table_to}

@@ -13,7 +13,7 @@ use Rattle.dump.specs.declared.single.SingleLabel.TheVariants as singles
 use Rattle.dump.specs.Walks.{Pair, Path, stays, goes, same_label, single_in}
 use Rattle.flatten.specs.Flat.{number_of}
 use Rattle.flatten.specs.Steps.Numbers.{both_numbers, one_or_none, numbers_of_pair, pairs_in, pairs_of}
-use Rattle.flatten.proofs.Members.{contains_head, contains_tail, contains_one, contains_cases, in_if, map_source, not_in_nil, flat_of, flat_from}
+use Rattle.streams.proofs.Members.{contains_head, contains_tail, contains_one, contains_cases, in_if, map_source, not_in_nil, flat_of, flat_from}
 
 -- ---- numbers
 

@@ -20,7 +20,7 @@ use Rattle.flatten.specs.Steps.Numbers.{pairs_in, pairs_of}
 use Rattle.flatten.specs.Steps.Places.{placed_values}
 use Rattle.flatten.specs.Steps.Tables.{OfOne}
 use Rattle.flatten.specs.declared.kinds.Kinds.{Kinds}
-use Rattle.flatten.proofs.Members.{filter_keeps, filter_source}
+use Rattle.streams.proofs.Members.{filter_keeps, filter_source}
 
 -- ---- the pass over the elements
 

@@ -6,7 +6,7 @@ use Rattle.std.proofs.lemmas.Bool.{cases_lt}
 use Rattle.std.proofs.lemmas.List.{get_or-map, get_or_append_left, get_or_push, length-map}
 use Rattle.std.proofs.lemmas.List.Elements.{Contains-append_left, Contains-append_right, Contains-push_cases}
 use Rattle.flatten.specs.Steps.Parents.{IntervalValue, AreLinks, AreIntervals, Follows, IsInside, IsLinkPair, IsOpenBefore, encloses, interval_at}
-use Rattle.flatten.proofs.Members.{one_contains}
+use Rattle.streams.proofs.Members.{one_contains}
 
 -- ---- from the last interval before one outward
 

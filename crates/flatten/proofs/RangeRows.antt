@@ -16,8 +16,8 @@ use Rattle.flatten.specs.Flat.{HasEachRange, RangeRowValue, ResultsValue, AreRes
 use Rattle.flatten.specs.Steps.Parents.{AreParents}
 use Rattle.flatten.specs.Steps.Ranges.{IsFoundRange, line_with, range_lines}
 use Rattle.flatten.specs.Steps.Tables.{container_uri, uri_of}
+use Rattle.streams.proofs.Members.{flat_from, map_source, one_contains}
 use Rattle.flatten.proofs.Listing.{keyed_listing}
-use Rattle.flatten.proofs.Members.{flat_from, map_source, one_contains}
 use Rattle.flatten.proofs.NumberPairs.{AreOnes}
 use Rattle.flatten.proofs.Rising.{SaysNumber, rises}
 

@@ -17,8 +17,8 @@ use Rattle.dump.specs.Graph.{element_at, line_of}
 use Rattle.dump.proofs.Ends.{HasNoCode, holds}
 use Rattle.dump.proofs.FirstIndices.{position_hit, position_kept}
 use Rattle.dump.proofs.Progresses.{sound_of}
+use Rattle.streams.proofs.Members.{member_found}
 use Rattle.dump.proofs.SameIds.{same_id_eq, same_id_self}
-use Rattle.dump.proofs.Uniques.{member_found}
 use Rattle.flatten.specs.Flat.{number_of}
 use Rattle.flatten.proofs.NumberPairs.{number_line}
 

@@ -21,7 +21,8 @@ use Rattle.flatten.specs.declared.rows.MarkRow.{MarkRow}
 use Rattle.flatten.specs.Flat.{MarkRowValue, ItemRowValue, item_cmp, kind_index, mark_cmp, role_index}
 use Rattle.flatten.specs.Rows.{document_value, mark_value}
 use Rattle.flatten.specs.Steps.Parents.{interval_cmp, interval_value}
-use Rattle.flatten.proofs.Listing.{eq_of, under}
+use Rattle.streams.proofs.Bools.{eq_of}
+use Rattle.dump.proofs.Listing.{under}
 
 pub text_eq : (xs ys : List ℕ) → pointwise nat_eq xs ys ≡ true → xs ≡ ys
 text_eq [] [] e = refl

@@ -1,5 +1,5 @@
 //! How many rows or pairs there may still be: each takes one, and so does each 128 bytes of text.
-//! The limits are in `flattening.rt`.
+//! The limits are in `limits.rt`.
 ghost use Rattle.std.specs.Prelude.{◌≡◌, ◌↔◌, ◌+◌, ◌/◌, ◌≤◌, IsOk, OnOk};
 ghost use Rattle.flatten.specs.Limits.{text_bytes};
 

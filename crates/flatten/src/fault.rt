@@ -2,8 +2,8 @@
 ghost use Rattle.std.specs.Prelude.{◌≡◌};
 ghost use Rattle.flatten.specs.declared.fault.FlattenFault.TheVariants.{Memory};
 
-use lsif::OUT_OF_MEMORY;
 use std::alloc::{AllocError, AllocFailed};
+use streams::OUT_OF_MEMORY;
 use thiserror::Error;
 
 /// Why a dump can't be flattened.

@@ -1,7 +1,7 @@
 -- A head, and then its body.
 use Rattle.std.proofs.Common.{◌≡◌, ℕ, ◌+◌, ◌<◌, ◌≤◌, inl, inr, List, [], ◌++◌, length, take, drop, Option, refl, sym, ◌∙◌, ap, arith, append_assoc, length-append}
 use Rattle.std.proofs.lemmas.List.{take-append-le, drop-append-le, take_all, drop_all}
-use Rattle.lsif.specs.Streams.{AtEnd}
+use Rattle.streams.specs.Streams.{AtEnd}
 use Rattle.http_edge.specs.Heads.{request_head, SettlesHead}
 use Rattle.http_edge.specs.Messages.{IsUnended}
 use Rattle.http_edge.specs.Requests.{refused, message_of}

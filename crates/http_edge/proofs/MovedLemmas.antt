@@ -1,8 +1,8 @@
 -- Bytes that move, one part after another.
 use Rattle.std.proofs.Common.{◌≡◌, ℕ, ◌+◌, inl, inr, List, [], ◌++◌, take, drop, Option, Some, None, refl, sym, ◌∙◌, ap, append_assoc, append-nil}
 use Rattle.std.proofs.Math.Seq.{take-add}
-use Rattle.lsif.specs.Streams.{Output, Moves, Gains}
-use Rattle.lsif.specs.Sending.{GainsOrHides, Writes, WritesTo}
+use Rattle.streams.specs.Streams.{Output, Moves, Gains}
+use Rattle.streams.specs.Sending.{GainsOrHides, Writes, WritesTo}
 use Rattle.http_edge.specs.Serving.{MovesOrHides}
 
 pub gains_refl : (a : Option (List ℕ)) → Gains a a []

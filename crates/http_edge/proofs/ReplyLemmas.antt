@@ -5,9 +5,9 @@ use Rattle.std.proofs.lemmas.List.{take-append-drop, take_all, length-drop}
 use Rattle.std.specs.Borrow.{Bor}
 use Rattle.std.proofs.lemmas.Bool.{le-leb, lt-ltb, leb-true, ltb-true, and_parts, false_from_ne_true}
 use Rattle.http.specs.StatusCode.{IsStatusCode, reason_phrase}
-use Rattle.lsif.specs.Sending.{Writes, Sends}
-use Rattle.lsif.specs.Streams.{Output}
-use Rattle.lsif.specs.declared.streams.Failed.{Failed}
+use Rattle.streams.specs.Sending.{Writes, Sends}
+use Rattle.streams.specs.Streams.{Output}
+use Rattle.streams.specs.declared.counted.Failed.{Failed}
 use Rattle.http_edge.specs.Replies.{phrase}
 use Rattle.http_edge.proofs.MovedLemmas.{writes_more, writes_to_more}
 

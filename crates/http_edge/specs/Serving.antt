@@ -1,12 +1,12 @@
 -- What serving a stream reads, answers and writes.
 use Rattle.std.specs.Prelude.{◌≡◌, ◌≢◌, ℕ, ◌+◌, ◌⊎◌, Bool, List, [], ◌∷◌, ◌++◌, length, Option, Some, None, Result, Ok, Err, ⊤}
-use Rattle.lsif.specs.Streams.{Output, Moves, AtEnd, SameCounts, OneFailure, OneZeroWrite}
+use Rattle.streams.specs.Streams.{Output, Moves, AtEnd, SameCounts, OneFailure, OneZeroWrite}
 use Rattle.http_edge.specs.Requests.{MessageValue, request, refused}
 use Rattle.machine.specs.State.{State}
 use Rattle.machine.specs.Reply.{ReplyValue, out_of_memory}
 use Rattle.machine.specs.Requests.{RequestValue}
 use Rattle.machine.specs.Runs.{MayReply, moved, after_a_stop}
-use Rattle.lsif.specs.Sending.{Writes, WritesTo}
+use Rattle.streams.specs.Sending.{Writes, WritesTo}
 use Rattle.std.specs.List.{flat_map}
 use Rattle.http_edge.specs.Messages.{Requests, Sure, IsEnded, IsPrefix, BeginsEach}
 use Rattle.http_edge.specs.Replies.{AnswerValue, replied, turned_away, answer_text}

@@ -1,12 +1,13 @@
 //! The first write of a reply: its head and the beginning of its body in one piece. A reply of at
-//! most `FIRST_BYTES` is written whole by it, so that no crash leaves a client with a head and no
-//! body. What follows is in `reply.rt`.
+//! most `FIRST_BYTES` is passed to the writer whole: where this takes all of it at once, no client
+//! has a head without its body. What follows is in `reply.rt`.
 ghost use Rattle.std.specs.Prelude.{◌≡◌, ℕ, ◌+◌, ◌≤◌, List, [], ◌++◌, take, IfOk, length, vec_capacity};
 ghost use Rattle.http_edge.specs.Limits.{first_bytes};
 
 use crate::limits::{FIRST_BYTES, REPLY_HEAD_LIMIT};
 use std::alloc::{AllocError, Global};
 use std::marker::Model;
+use streams::append;
 
 /// Room for the bytes of the first write. It's made once, so that no reply takes memory for it.
 #[derive(Drop)]
@@ -54,17 +55,5 @@ impl Joined {
         append(&mut self.bytes, head);
         append(&mut self.bytes, &body[..count]);
         count
-    }
-}
-
-/// Adds bytes for which there is room.
-fn append(bytes: &mut Vec<u8>, part: &[u8])
-    requires { length bytes.old.items + length part.now ≤ vec_capacity bytes.old }
-    ensures bytes { bytes.new.items ≡ bytes.old.items ++ part.now }
-    ensures room { vec_capacity bytes.old ≤ vec_capacity bytes.new }
-{
-    match bytes.extend_from_slice(part) {
-        Ok(()) => {}
-        Err(_) => unreachable!(),
     }
 }

@@ -4,7 +4,7 @@
 //! `specs/Messages` says which messages a stream has.
 ghost use Rattle.std.specs.Prelude.{◌≡◌, ◌≢◌, ℕ, ◌+◌, ◌<◌, ◌≤◌, List, [], ◌++◌, drop, take, Option, Some, None, IfOk, IfSome, length};
 ghost use Rattle.httparse.specs.Spans.{span_bytes, IsWithin};
-ghost use Rattle.lsif.specs.Streams.{AtEnd, CountsFailure, IsCountable, Moves, Pulls};
+ghost use Rattle.streams.specs.Streams.{AtEnd, CountsFailure, IsCountable, Moves, Pulls};
 ghost use Rattle.machine.specs.State.{State};
 ghost use Rattle.http_edge.specs.Steps.Heads.{FitsIn};
 ghost use Rattle.http_edge.specs.Limits.{head_limit};
@@ -17,11 +17,11 @@ use crate::limits::HEAD_LIMIT;
 use crate::refusal::Refusal;
 use crate::request::{Asked, read_request};
 use crate::route::{Route, router};
-use lsif::{Buffer, Failed, Source};
 use machine::{Desk, Reply, Upload};
 use matchit::{InsertError, Router};
 use std::alloc::{AllocError, Global};
 use std::marker::Model;
+use streams::{Buffer, Failed, Source};
 
 /// What was read of a message.
 #[derive(Drop)]

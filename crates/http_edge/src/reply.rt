@@ -2,8 +2,8 @@
 //! crate `machine`. `specs/Replies`.
 ghost use Rattle.std.specs.Prelude.{◌≡◌, ◌+◌, ◌≤◌, ◌++◌, codes, length};
 ghost use Rattle.arrayvec.specs.ArrayString.{array_string_len};
-ghost use Rattle.lsif.specs.Sending.{Sends};
-ghost use Rattle.lsif.specs.Streams.{CanCount};
+ghost use Rattle.streams.specs.Sending.{Sends};
+ghost use Rattle.streams.specs.Streams.{CanCount};
 ghost use Rattle.http_edge.specs.Replies.{phrase, allow_text, head_text, response_text, answer_text};
 ghost use Rattle.http_edge.specs.Steps.Replies.{answer_value};
 
@@ -14,8 +14,8 @@ use crate::route::Route;
 use arrayvec::ArrayString;
 use http::{Method, StatusCode};
 use itoa::Buffer;
-use lsif::{Failed, Sink, push_all};
 use machine::Reply;
+use streams::{Failed, Sink, push_all};
 
 /// The answer to a request.
 #[derive(Drop)]

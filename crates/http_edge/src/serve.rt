@@ -2,8 +2,8 @@
 //! is in `reading.rt`, the text of answers in `reply.rt`. `specs/Serving`.
 ghost use Rattle.std.specs.Prelude.{◌≡◌, ◌≢◌, ℕ, ◌≤◌, List, [], Err, length};
 ghost use Rattle.machine.specs.State.{State};
-ghost use Rattle.lsif.specs.Sending.{CountsSending, Sends};
-ghost use Rattle.lsif.specs.Streams.{CanCount, IsCountable};
+ghost use Rattle.streams.specs.Sending.{CountsSending, Sends};
+ghost use Rattle.streams.specs.Streams.{CanCount, IsCountable};
 ghost use Rattle.http_edge.specs.Messages.{ends};
 ghost use Rattle.http_edge.specs.Replies.{AnswerValue, answer_text};
 ghost use Rattle.http_edge.specs.Steps.Replies.{answer_value};
@@ -16,10 +16,10 @@ use crate::joined::Joined;
 use crate::reading::{Message, MessageReader};
 use crate::reply::Answer;
 use crate::request::Asked;
-use lsif::{CANNOT_READ, CANNOT_WRITE, Failed, OUT_OF_MEMORY, Sink, Source};
 use machine::{Desk, Reply, Request};
 use matchit::InsertError;
 use std::alloc::{AllocError, Global};
+use streams::{CANNOT_READ, CANNOT_WRITE, Failed, OUT_OF_MEMORY, Sink, Source};
 use thiserror::Error;
 
 /// Why serving stopped.

@@ -1,12 +1,6 @@
-pub mod CutLines
 pub mod Floats
 pub mod IdLists
 pub mod ItemLists
-pub mod LinesOf
-pub mod NextLines
 pub mod Profiles
 pub mod RequestKinds
-pub mod Seen
-pub mod Sendings
-pub mod Slices
 pub mod Utf8

@@ -1,5 +1,5 @@
 -- A kind of request is known by its number, and each is listed.
-use Rattle.std.proofs.Common.{◌≡◌, ◌∙◌, ◌<◌, Bool, true, Contains, get_or, refl, sym, ap, arith}
+use Rattle.std.proofs.Common.{◌≡◌, ◌∙◌, true, Contains, get_or, refl, sym, ap, arith}
 use Rattle.lsif.specs.RequestKinds.{kind_number, kinds, same_kind}
 use Rattle.lsif.specs.declared.request_kind.RequestKind.{RequestKind}
 use Rattle.lsif.specs.declared.request_kind.RequestKind.TheVariants.{Definition}

@@ -1,4 +1,3 @@
-pub mod Buffered
 pub mod Code
 pub mod Edges
 pub mod Element
@@ -7,14 +6,10 @@ pub mod Hovers
 pub mod IdValues
 pub mod Ids
 pub mod Lent
-pub mod Lines
 pub mod Monikers
-pub mod Pieces
 pub mod Profiles
 pub mod Reading
 pub mod RequestKinds
-pub mod Sending
 pub mod Shape
 pub mod Steps
-pub mod Streams
 pub mod Vertices

@@ -1,6 +1,6 @@
 -- The kinds of requests, and in what they differ (LSIF 0.6.0, "Requests"; "Multiple Projects":
 -- import and export monikers).
-use Rattle.std.specs.Prelude.{ℕ, ◌+◌, ◌&&◌, ◌||◌, not, Bool, true, false, nat_eq, nat_le, List, [], ◌∷◌, codes, bytes_eq, Option, find}
+use Rattle.std.specs.Prelude.{ℕ, ◌&&◌, ◌||◌, not, Bool, true, false, nat_eq, nat_le, List, [], ◌∷◌, codes, bytes_eq, Option, find}
 use Rattle.lsif.specs.declared.element.MonikerKind.{MonikerKind}
 use Rattle.lsif.specs.declared.element.MonikerKind.TheVariants.{Import, Export, Local}
 use Rattle.lsif.specs.declared.profile.Profile.{Profile}

@@ -1,4 +1,3 @@
 -- What only private contracts and proofs name: steps of loops, and values of the program's own
 -- types.
-pub mod Cutting
 pub mod IdLists

@@ -60,7 +60,8 @@ pub enum Vertex {
     Range(Span),
     /// `resultSet`.
     ResultSet,
-    /// The result of a request that is answered by places, as `definitionResult`.
+    /// The result of a request that is answered by places, as `definitionResult`. No line gives it
+    /// of a hover, whose result is the next variant.
     Result(RequestKind),
     /// `hoverResult`, and its contents as compact JSON with the members of objects in the order of
     /// their names' bytes: a text; an object with `kind` and `value`, or with `language` and

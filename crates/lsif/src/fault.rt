@@ -3,8 +3,8 @@ ghost use Rattle.std.specs.Prelude.{◌≡◌};
 ghost use Rattle.lsif.specs.declared.fault.ReadFault.TheVariants.{Memory};
 
 use crate::code::Code;
-use crate::messages::OUT_OF_MEMORY;
 use std::alloc::{AllocError, AllocFailed};
+use streams::OUT_OF_MEMORY;
 use thiserror::Error;
 
 /// Why a line has no element.

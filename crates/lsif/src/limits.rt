@@ -5,9 +5,6 @@
 /// server.
 pub const LONGEST_LINE: usize = 1048576;
 
-/// How many bytes a reader is asked for at a time, 64 KiB. No answer depends on it.
-pub(crate) const BUFFER_LEN: usize = 65536;
-
 /// The greatest number that is an id: `Number.MAX_SAFE_INTEGER` of JavaScript (ECMA-262), the last
 /// of the numbers that it tells from their neighbours.
 pub(crate) const GREATEST_ID: u64 = 9007199254740991;

@@ -19,13 +19,14 @@ use Rattle.dump.specs.Places.{IsListing}
 use Rattle.dump.specs.Requests.{Cover, IsFirst, nobody, here, later, IsWithin, Pick, RangeValue, Speaks}
 use Rattle.dump.proofs.Nests.{nested}
 use Rattle.dump.proofs.Progresses.{sound_of}
+use Rattle.streams.proofs.Bools.{and_both, and_of}
+use Rattle.streams.proofs.Members.{contains_head, contains_one, contains_tail, flat_from, flat_of, if_in, in_if, not_in_nil}
 use Rattle.dump.proofs.Uniques.{one_document, vertex_is}
 use Rattle.machine.specs.Steps.Covers.{inner_order}
 use Rattle.machine.proofs.Covers.{Lies, covers_from, covers_of, inner_total, two, within}
 use Rattle.machine.proofs.DumpSets.{speaks}
 use Rattle.machine.proofs.EntryLists.{all_of, rises_head, rises_tail}
 use Rattle.machine.proofs.Finite.{Decision, Finite, listing}
-use Rattle.machine.proofs.Members.{and_both, and_of, contains_head, contains_one, contains_tail, flat_from, flat_of, if_in, in_if, not_in_nil}
 use Rattle.machine.proofs.Ties.{inner_tie}
 
 -- ---- those of a document, element by element

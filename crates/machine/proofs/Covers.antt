@@ -15,7 +15,8 @@ use Rattle.dump.specs.Contained.{is_in, conflicts, IsNested}
 use Rattle.dump.specs.Places.{position_cmp}
 use Rattle.dump.specs.Requests.{IsWithin, RangeValue}
 use Rattle.machine.specs.Steps.Covers.{inner_order}
-use Rattle.machine.proofs.Members.{and_both, and_of, same_id_eq, same_id_self}
+use Rattle.streams.proofs.Bools.{and_both, and_of}
+use Rattle.dump.proofs.SameIds.{same_id_eq, same_id_self}
 
 -- ---- positions and spans
 

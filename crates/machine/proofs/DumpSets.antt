@@ -21,9 +21,10 @@ use Rattle.dump.proofs.OnePicks.{one_result}
 use Rattle.dump.proofs.OwnPlaces.{first_contents}
 use Rattle.dump.proofs.Paths.{path_of, reaches_of}
 use Rattle.dump.proofs.Progresses.{sound_of}
+use Rattle.streams.proofs.Members.{contains_head, contains_tail, contains_map}
 use Rattle.dump.proofs.Uniques.{vertex_is}
+use Rattle.dump.proofs.SameIds.{same_id_eq, same_id_self}
 use Rattle.machine.proofs.Finite.{Finite, Decision, is_true, same_where, of_list, of_same, of_none, of_option, of_union, of_image, of_those, of_decision, of_either, has_member}
-use Rattle.machine.proofs.Members.{contains_head, contains_tail, contains_map, same_id_eq, same_id_self}
 
 pub same_ids : (x y : IdValue) → Decision (x ≡ y)
 same_ids x y = same_where (same_id x y) (same_id_eq x y) (λ e. subst (λ z. same_id x z ≡ true) e (same_id_self x))

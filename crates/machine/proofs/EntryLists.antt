@@ -11,8 +11,8 @@ use Rattle.std.specs.declared.cmp.Ordering.{Ordering}
 use Rattle.std.specs.declared.cmp.Ordering.TheVariants.{Less}
 use Rattle.std.proofs.lemmas.Map.Entries.{place_from_lookup, btree_map_get_place}
 use Rattle.std.proofs.lemmas.List.Elements.{Contains-append_cases}
-use Rattle.machine.proofs.Listing.{text_eq}
-use Rattle.machine.proofs.Members.{contains_head, contains_tail, contains_cases, not_in_nil}
+use Rattle.streams.proofs.Lists.{text_eq}
+use Rattle.streams.proofs.Members.{contains_head, contains_tail, contains_cases, not_in_nil}
 
 -- ---- members by their places
 

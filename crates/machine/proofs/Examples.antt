@@ -5,7 +5,7 @@ use Rattle.std.specs.Prelude.{Option, Some, None, bytes_eq, codes, if◌then◌e
 use Rattle.lsif.specs.declared.element.MonikerKind.{MonikerKind}
 use Rattle.lsif.specs.declared.element.MonikerKind.TheVariants.{Import, Export}
 use Rattle.lsif.specs.declared.profile.Profile.TheVariants.{One}
-use Rattle.lsif.specs.Lines.{ended}
+use Rattle.streams.specs.Lines.{ended}
 use Rattle.lsif.specs.Element.{IdValue, Reading, number, result_set, moniker, moniker_edge, vertex, edge}
 use Rattle.lsif.specs.declared.request_kind.RequestKind.TheVariants.{Definition}
 use Rattle.dump.specs.Graph.{element_at}

@@ -10,7 +10,7 @@ use Rattle.std.specs.declared.cmp.Ordering.TheVariants.{Less, Equal, Greater}
 use Rattle.std.proofs.lemmas.List.Elements.{Contains-append_left, Contains-append_right, Contains-append_cases}
 use Rattle.dump.specs.Places.{IsListing}
 use Rattle.machine.proofs.EntryLists.{rises_cons, rises_nil, rises_head, rises_tail}
-use Rattle.machine.proofs.Members.{contains_head, contains_tail, contains_one, contains_cases, not_in_nil}
+use Rattle.streams.proofs.Members.{contains_head, contains_tail, contains_one, contains_cases, not_in_nil}
 
 -- a list has these members and no other
 pub record Finite {X : Type 0} (P : X → Type 0) : Type 0 where

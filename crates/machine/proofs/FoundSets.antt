@@ -28,7 +28,7 @@ use Rattle.machine.proofs.DumpSets.{borne, has_contents, marks, sources, vertex_
 use Rattle.machine.proofs.EntryLists.{rises_head}
 use Rattle.machine.proofs.Finite.{Decision, Finite, both, has_member, is_true, listing, of_either, of_image, of_list, of_option, of_same, of_those, of_union}
 use Rattle.machine.proofs.ListedSets.{same_texts}
-use Rattle.machine.proofs.Members.{contains_cases, contains_head, not_in_nil}
+use Rattle.streams.proofs.Members.{contains_cases, contains_head, not_in_nil}
 use Rattle.machine.proofs.OneReplies.{found_total, then_equal}
 use Rattle.machine.proofs.PlaceSets.{first_places}
 use Rattle.machine.proofs.Ties.{found_tie, number_tie, text_tie}

@@ -9,7 +9,7 @@ use Rattle.dump.specs.Places.{PlaceValue, IsAt}
 use Rattle.dump.specs.declared.role.Role.{Role}
 use Rattle.dump.specs.declared.role.Role.TheVariants as roles
 use Rattle.machine.specs.Steps.Places.{places_at, places_in, places_spanned, places_of_range, same_role, is_wanted}
-use Rattle.machine.proofs.Members.{contains_head, contains_one, not_in_nil, any_of, any_from}
+use Rattle.streams.proofs.Members.{contains_head, contains_one, not_in_nil, any_of, any_from}
 
 -- ---- the places of a range
 

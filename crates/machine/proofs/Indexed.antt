@@ -16,7 +16,7 @@ use Rattle.machine.specs.Judging.{judged, judged_dump, judged_tags, dump_change,
 use Rattle.machine.specs.Reply.{ReplyValue}
 use Rattle.machine.specs.Requests.{ActionValue, put_dump, put_tags, remove, CommandValue}
 use Rattle.machine.specs.Retries.{KeptValue, has_key, with_command, once, plain_dump, plain_tags, Event, Moment, Life}
-use Rattle.machine.proofs.Members.{contains_head, contains_tail}
+use Rattle.streams.proofs.Members.{contains_head, contains_tail}
 use Rattle.machine.proofs.Retrying.{is_plain}
 
 -- what was judged sound

@@ -13,9 +13,7 @@ pub mod Indexed
 pub mod Judging
 pub mod ListTexts
 pub mod ListedSets
-pub mod Listing
 pub mod LongLines
-pub mod Members
 pub mod Numbers
 pub mod OneReplies
 pub mod PlaceSets

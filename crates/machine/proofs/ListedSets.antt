@@ -14,7 +14,8 @@ use Rattle.machine.specs.Projects.{IsProject, ProjectValue, project_cmp, text_cm
 use Rattle.machine.specs.State.{State}
 use Rattle.machine.specs.Moments.{IsIndex}
 use Rattle.machine.proofs.Finite.{Decision, Finite, is_true, listing, of_image, of_list, of_option, of_same, of_those, of_union, same_where}
-use Rattle.machine.proofs.Members.{and_both, contains_cases, not_in_nil}
+use Rattle.streams.proofs.Bools.{and_both}
+use Rattle.streams.proofs.Members.{contains_cases, not_in_nil}
 use Rattle.machine.proofs.OneReplies.{line_total, name_total, then_equal}
 use Rattle.machine.proofs.Prefixes.{begins, begun}
 use Rattle.machine.proofs.Ties.{line_tie, text_tie}

@@ -23,7 +23,8 @@ use Rattle.machine.specs.Projects.{text_cmp, IsProject, project_cmp, ProjectValu
 use Rattle.machine.specs.State.{State}
 use Rattle.machine.specs.Reply.{ReplyValue, FoundPlace, places_found, hover_found, tags_found, projects_found}
 use Rattle.machine.specs.Requests.{DocumentPositionValue, QueryValue, position_query, references, names, prefix, projects, profile}
-use Rattle.machine.proofs.Listing.{eq_of, text_eq}
+use Rattle.streams.proofs.Bools.{eq_of}
+use Rattle.streams.proofs.Lists.{text_eq}
 
 -- ---- orders
 

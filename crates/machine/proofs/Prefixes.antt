@@ -5,7 +5,7 @@ use Rattle.std.specs.List.{starts_with}
 use Rattle.std.proofs.lemmas.List.{take-append-drop}
 use Rattle.std.proofs.lemmas.Slice.Eq.{bytes_eq-Decides}
 use Rattle.machine.specs.FoundTags.{BeginsWith}
-use Rattle.machine.proofs.Listing.{text_eq}
+use Rattle.streams.proofs.Lists.{text_eq}
 
 pub begins : (start name : List ℕ) → starts_with nat_eq name start ≡ true → BeginsWith name start
 begins start name e =

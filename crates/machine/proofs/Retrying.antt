@@ -16,7 +16,8 @@ use Rattle.machine.specs.declared.code.Code.TheVariants.{D01, D02, S01, S02}
 use Rattle.machine.specs.Requests.{ActionValue, put_dump, put_tags, remove, CommandValue, RequestValue, command, query}
 use Rattle.machine.specs.Runs.{MayReply, own, no_memory, no_store, moved, after_a_stop, Run, after_a_stop_of_run}
 use Rattle.machine.specs.Retries.{KeptValue, has_key, with_command, once, plain_dump, plain_tags, plain_kept, Event, sent, stop, StopValue, Moment, first_moment, moment_after_reply, moment_after_stop, Goes, Life, IsPlain, with_run, states_after_a_stop}
-use Rattle.machine.proofs.Members.{contains_cases, not_in_nil, and_both}
+use Rattle.streams.proofs.Members.{contains_cases, not_in_nil}
+use Rattle.streams.proofs.Bools.{and_both}
 
 -- the state is that of this history
 record Agrees (m : State) (h : List KeptValue) : Type 0 where

@@ -3,10 +3,10 @@ use Rattle.std.proofs.Common.{◌≡◌, ◌∙◌, ◌↔◌, ℕ, ◌<◌, ◌
 use Rattle.std.specs.List.{AllByRecursion, flat_map}
 use Rattle.std.proofs.lemmas.List.{map-append}
 use Rattle.std.proofs.lemmas.List.Sums.{fold-append}
-use Rattle.lsif.specs.Lines as cuts
+use Rattle.streams.specs.Lines as cuts
 use Rattle.lsif.specs.Element as lsif
 use Rattle.lsif.specs.Element.{ElementValue}
-use Rattle.lsif.specs.Pieces.{CutterValue, begun, unless_empty}
+use Rattle.streams.specs.Pieces.{CutterValue, begun, unless_empty}
 use Rattle.lsif.specs.Reading.{reading, longest_line}
 use Rattle.lsif.specs.declared.profile.Profile.{Profile}
 use Rattle.dump.specs.Lines.{dump_of}

@@ -5,12 +5,12 @@ use Rattle.std.proofs.Math.Seq.{take-append_seam}
 use Rattle.std.proofs.lemmas.List.Sums.{fold-append}
 use Rattle.std.proofs.lemmas.Bool.{lt-ltb}
 use Rattle.std.proofs.lemmas.Bool.Decides.{nat_tests}
-use Rattle.lsif.specs.Lines.{IsLine, ended, line_feed}
-use Rattle.lsif.specs.Pieces.{CutterValue, IsOver, Takes, begun, line_in}
+use Rattle.streams.specs.Lines.{IsLine, ended, line_feed}
+use Rattle.streams.specs.Pieces.{CutterValue, IsOver, Takes, begun, line_in}
 use Rattle.lsif.specs.Reading.{reading}
-use Rattle.lsif.specs.declared.cutter.LineState.TheVariants.{TooLong}
-use Rattle.lsif.specs.declared.lines.LinesFault.{LinesFault}
-use Rattle.lsif.specs.declared.lines.LinesFault.TheVariants as faults
+use Rattle.streams.specs.declared.cutter.LineState.TheVariants.{TooLong}
+use Rattle.streams.specs.declared.lines.LinesFault.{LinesFault}
+use Rattle.streams.specs.declared.lines.LinesFault.TheVariants as faults
 use Rattle.lsif.specs.declared.profile.Profile.{Profile}
 use Rattle.dump.specs.Progress as dumps
 use Rattle.dump.specs.Progress.{Progress}

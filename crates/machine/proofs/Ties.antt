@@ -12,7 +12,7 @@ use Rattle.machine.specs.Answers.{found_cmp}
 use Rattle.machine.specs.Reply.{FoundPlace}
 use Rattle.machine.specs.Steps.Covers.{inner_order}
 use Rattle.machine.proofs.EntryLists.{text_same}
-use Rattle.machine.proofs.Listing.{eq_of}
+use Rattle.streams.proofs.Bools.{eq_of}
 use Rattle.machine.proofs.OneReplies.{then_equal}
 
 pub text_tie : (s t : List ℕ) → text_cmp s t ≡ Equal → s ≡ t

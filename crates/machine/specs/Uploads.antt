@@ -1,8 +1,8 @@
 -- Bodies that come in pieces: what an upload holds, and the bodies that it represents.
 use Rattle.std.specs.Prelude.{◌≡◌, ℕ, ◌+◌, nat_lt, Bool, true, false, List, [], ◌∷◌, ◌++◌, length, map, ◌⊎◌, Ok, if◌then◌else◌}
 use Rattle.std.specs.List.{AllByRecursion, flat_map}
-use Rattle.lsif.specs.Lines as texts
-use Rattle.lsif.specs.Lines.{IsLine}
+use Rattle.streams.specs.Lines as texts
+use Rattle.streams.specs.Lines.{IsLine}
 use Rattle.lsif.specs.Reading as dumps
 use Rattle.lsif.specs.Reading.{reading}
 use Rattle.lsif.specs.declared.profile.Profile.{Profile}

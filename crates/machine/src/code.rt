@@ -3,6 +3,9 @@
 ghost use Rattle.std.specs.Prelude.{◌≡◌};
 ghost use Rattle.machine.specs.Reply.{row_of, fault_text};
 
+/// The message of errors where a store refused, for another cause than memory.
+pub const STORE_REFUSED: &str = "store refused";
+
 /// Why a request has no answer, where that is no line's fault.
 #[derive(Clone, Copy, Debug, PartialEq, Eq)]
 pub enum Code {

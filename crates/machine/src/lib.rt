@@ -25,7 +25,7 @@ pub use bodies::{
     projects_found, removal_text, removed, tags_accepted, tags_found,
 };
 pub use change::{Change, judge};
-pub use code::Code;
+pub use code::{Code, STORE_REFUSED};
 pub use desk::Desk;
 pub use found::{FoundPlace, FoundProject, FoundTag};
 pub use laws::{answer_law, judgement_law, reply_law, retry_law};

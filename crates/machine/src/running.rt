@@ -8,8 +8,8 @@ ghost use Rattle.machine.specs.Runs.{MayReply, moved, Run, after_a_stop, after_a
 use crate::desk::Desk;
 use crate::reply::Reply;
 use crate::request::Request;
-use lsif::OUT_OF_MEMORY;
 use std::alloc::{AllocError, Global};
+use streams::OUT_OF_MEMORY;
 use thiserror::Error;
 
 /// Why a run served no request.

@@ -4,7 +4,7 @@ ghost use Rattle.std.specs.Prelude.{◌≡◌, ◌≢◌, ◌<◌, ◌≤◌, �
 ghost use Rattle.machine.specs.Judging.{judged};
 ghost use Rattle.machine.specs.Steps.Changes.{said_value};
 ghost use Rattle.machine.specs.Steps.Uploads.{HasState, Says, StandsBy, TookBody, body_value, emptied, taken};
-ghost use Rattle.lsif.specs.Pieces.{begun};
+ghost use Rattle.streams.specs.Pieces.{begun};
 ghost use Rattle.machine.specs.Uploads.{HasRead, action_of, command_of, empty, longest_of, no_dump_line, no_tags_line};
 
 use crate::change::Change;
@@ -12,9 +12,10 @@ use crate::line_reader::{LineReader, ReadingState};
 use crate::names::{Key, ProjectName};
 use crate::reply::Reply;
 use dump::{Checker, fault_law};
-use lsif::{Cutter, LONGEST_LINE, OUT_OF_MEMORY, Profile, lines_law as cuts_law};
+use lsif::{LONGEST_LINE, Profile};
 use std::alloc::{AllocError, Global};
 use std::marker::Model;
+use streams::{Cutter, OUT_OF_MEMORY, lines_law as cuts_law};
 use tags::{
     LONGEST_LINE as LONGEST_TAG_LINE, TagReader, lines_law, reading_law, state_law, text_law,
 };

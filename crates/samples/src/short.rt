@@ -2,9 +2,10 @@
 use crate::found::{parted, there};
 use crate::named::SAMPLES;
 use dump::{CheckedDump, read_dump};
-use lsif::{Counted, Profile};
+use lsif::Profile;
 use std::alloc::{AllocError, Global};
 use std::test::Fail;
+use streams::Counted;
 
 /// The texts before and after an id.
 pub type Marks = (&'static str, &'static str);

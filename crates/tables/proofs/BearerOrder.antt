@@ -11,8 +11,10 @@ use Rattle.sqlite_trees.proofs.ListLemmas.{map-map}
 use Rattle.lsif.specs.declared.element.MonikerKind.{MonikerKind}
 use Rattle.dump.specs.Places.{IsListing}
 use Rattle.flatten.specs.Flat.{kind_index}
-use Rattle.flatten.proofs.Listing.{under, sorted_listing, rises_unmap, eq_of}
-use Rattle.flatten.proofs.Members.{contains_map, map_source}
+use Rattle.streams.proofs.Bools.{eq_of}
+use Rattle.streams.proofs.Members.{contains_map, map_source}
+use Rattle.dump.proofs.Listing.{under, sorted_listing}
+use Rattle.flatten.proofs.Listing.{rises_unmap}
 use Rattle.tables.specs.Columns.{number}
 use Rattle.machine.specs.Projects.{text_cmp}
 use Rattle.machine.specs.Selections.{BearerFound, bearer_found, bearer_found_cmp}

@@ -16,7 +16,7 @@ use Rattle.flatten.specs.Rows.{results_value}
 use Rattle.lsif.specs.RequestKinds.{kinds}
 use Rattle.lsif.proofs.RequestKinds.{listed}
 use Rattle.dump.specs.Places.{IsListing}
-use Rattle.flatten.proofs.Listing.{same_listing}
+use Rattle.dump.proofs.Listing.{same_listing}
 use Rattle.tables.specs.declared.slots.Part.TheVariants.{Dump}
 use Rattle.tables.proofs.BearerOrder.{tied_bearers}
 use Rattle.dump.specs.Progress.{DumpValue}

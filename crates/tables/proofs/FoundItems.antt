@@ -26,7 +26,7 @@ use Rattle.dump.specs.Places.{PlaceValue, IsListing, place_cmp}
 use Rattle.dump.proofs.OnePicks.{place_total}
 use Rattle.dump.specs.Progress.{DumpValue}
 use Rattle.flatten.specs.Flat.{RowsValue, IsFlat, ItemRowValue, IsItemRow, role_index}
-use Rattle.flatten.proofs.Listing.{under, same_listing}
+use Rattle.dump.proofs.Listing.{under, same_listing}
 use Rattle.flatten.proofs.RowOrders.{same_span, place_ties, place_same}
 use Rattle.tables.specs.declared.slots.Part.TheVariants.{Dump}
 use Rattle.tables.specs.Schema.{schema_two}

@@ -21,7 +21,7 @@ use Rattle.lsif.specs.declared.element.MonikerKind.TheVariants.{Import, Export, 
 use Rattle.dump.specs.Places.{IsListing}
 use Rattle.dump.specs.Progress.{DumpValue}
 use Rattle.flatten.specs.Flat.{RowsValue, IsFlat, MarkRowValue, IsMarkRow, kind_index}
-use Rattle.flatten.proofs.Listing.{under, same_listing}
+use Rattle.dump.proofs.Listing.{under, same_listing}
 use Rattle.flatten.proofs.RowOrders.{parts_tie, parts_same}
 use Rattle.tables.specs.declared.slots.Part.TheVariants.{Dump}
 use Rattle.tables.specs.Schema.{schema_two}

@@ -21,7 +21,8 @@ use Rattle.sqlite_rules.proofs.ListLemmas.{has_contained, contains_had}
 use Rattle.sqlite_trees.proofs.ListLemmas.{map-map}
 use Rattle.std.proofs.lemmas.List.{map-append}
 use Rattle.dump.specs.Places.{IsListing}
-use Rattle.flatten.proofs.Listing.{under, same_listing, rises_unmap}
+use Rattle.dump.proofs.Listing.{under, same_listing}
+use Rattle.flatten.proofs.Listing.{rises_unmap}
 use Rattle.flatten.proofs.RowOrders.{text_eq}
 use Rattle.tables.specs.declared.slots.Part.TheVariants.{Dump, Tags}
 use Rattle.tables.specs.declared.slots.Part.{Part}

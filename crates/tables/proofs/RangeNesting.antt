@@ -21,9 +21,9 @@ use Rattle.dump.proofs.Lines.{one_line}
 use Rattle.dump.proofs.Nests.{nested}
 use Rattle.dump.proofs.Passes.{conflicts_itself}
 use Rattle.dump.proofs.Progresses.{sound_of}
+use Rattle.streams.proofs.Bools.{eq_of}
 use Rattle.dump.proofs.Uniques.{one_document}
 use Rattle.flatten.specs.Flat.{RangeRowValue, RowsValue, IsFlat, IsParent, IsRangeRow, LiesIn, by_line, number_of}
-use Rattle.flatten.proofs.Listing.{eq_of}
 use Rattle.flatten.proofs.NumberPairs.{number_ones}
 use Rattle.tables.specs.Steps.Climbs.{IsRowOf}
 use Rattle.tables.proofs.Keeping.{same_some}

@@ -5,9 +5,10 @@ ghost use Rattle.tables.specs.Fault.{IsStoreFault, name_of, fault_of};
 ghost use Rattle.tables.specs.Steps.Refusals.{told_fault};
 ghost use Rattle.tables.specs.declared.fault.Refusal.TheVariants.{Memory, Store};
 
-use lsif::{OUT_OF_MEMORY, STORE_REFUSED};
+use machine::STORE_REFUSED;
 use sqlite::{Error, ErrorCode};
 use std::alloc::{AllocError, AllocFailed};
+use streams::OUT_OF_MEMORY;
 
 /// Why a call of the tables is refused. Its message is what the program prints.
 #[derive(Clone, Copy, Debug, PartialEq, Eq, thiserror::Error)]

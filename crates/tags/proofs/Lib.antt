@@ -3,6 +3,7 @@ pub mod AroundLemmas
 pub mod ConditionLemmas
 pub mod ContentLemmas
 pub mod Copies
+pub mod CountLemmas
 pub mod CutLemmas
 pub mod EscapeLemmas
 pub mod FieldLemmas
@@ -11,6 +12,7 @@ pub mod LineLemmas
 pub mod NumberLemmas
 pub mod PartLemmas
 pub mod PatternLemmas
+pub mod ReadLines
 pub mod ReaderLemmas
 pub mod SaidLemmas
 pub mod StepLemmas

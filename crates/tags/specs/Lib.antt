@@ -2,6 +2,7 @@ pub mod Around
 pub mod Bytes
 pub mod Codes
 pub mod Conditions
+pub mod Counting
 pub mod Escapes
 pub mod Fault
 pub mod Faults

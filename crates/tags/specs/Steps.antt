@@ -1,5 +1,6 @@
 -- What only private contracts and proofs name, and the laws that join it to the definitions.
 pub mod Contents
+pub mod Counting
 pub mod Cutting
 pub mod Escapes
 pub mod Faults

@@ -1,11 +1,11 @@
-//! The checker of a tags file, which judges lines and counts tags, for `check-tags`. It keeps one
-//! line and one name, however long the file is. A reader that keeps the tags is in `reader.rt`.
-//! `specs/States`.
+//! The checker of a tags file, which judges lines and counts tags. It keeps one name, however long
+//! the file is. What passes lines to it is in `counting.rt`, and in `reader.rt` where the tags are
+//! kept. `specs/States`.
 ghost use Rattle.std.specs.Prelude.{◌≡◌, ◌+◌, ◌<◌, ◌≤◌, IfNone, OnErr, OnOk};
 ghost use Rattle.tags.specs.Steps.Contents.{IsContent, Reads};
 ghost use Rattle.tags.specs.Faults.{result_map};
-ghost use Rattle.tags.specs.Fault.{Reading, most_lines};
-ghost use Rattle.tags.specs.Lines.{IsHanded, line_text};
+ghost use Rattle.tags.specs.Fault.{most_lines};
+ghost use Rattle.tags.specs.Lines.{line_text};
 ghost use Rattle.tags.specs.Steps.Readings.{handed};
 ghost use Rattle.tags.specs.Values.{ContentValue};
 
@@ -165,24 +165,16 @@ impl TagChecker {
         self.counted.add(self.alloc, content)
     }
 
-    /// Judges the next line and takes it.
-    fn take_line(&mut self, line: Result<&[u8], Code>, ended: bool) -> Result<(), TagsFault>
+    /// Takes the next line without its LF, or T01 where it was longer than a line may be. `ended`
+    /// says whether an LF follows, and is false for the last line alone. After a fault of a line it
+    /// returns that fault for good. Where memory runs out the line has no fault, and the checker is
+    /// as before.
+    pub(crate) fn feed(&mut self, line: Result<&[u8], Code>, ended: bool) -> Result<(), TagsFault>
         ensures { Tells result self.old self.new (next counted self.old (handed (result_map (λ bytes. bytes.now) line.entry) ended)) }
     {
         let content = self.judge(line, ended)?;
         self.take(content)?;
         Ok(())
-    }
-
-    /// Takes the next line without its LF, or T01 where it was longer than a line may be. `ended`
-    /// says whether an LF follows, and is false for the last line alone. After a fault of a line it
-    /// returns that fault for good. Where memory runs out the line has no fault, and the checker is
-    /// as before.
-    pub fn feed(&mut self, line: Result<&[u8], Code>, ended: bool) -> Result<(), TagsFault>
-        ensures { (reading : Reading) → IsHanded (result_map (λ bytes. bytes.now) line.entry) ended reading
-            → Tells result self.old self.new (next counted self.old reading) }
-    {
-        self.take_line(line, ended)
     }
 
     /// How many ordinary tags there were, or the fault of the first line that is faulty.

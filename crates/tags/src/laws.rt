@@ -1,6 +1,6 @@
 //! Laws of the definitions of a tags file, which mention no program: each line has one code or
 //! parts, and each file one fault or its tags.
-ghost use Rattle.std.specs.Prelude.{◌≡◌, ◌↔◌, ◌+◌, ◌++◌, ◌∷◌, [], Ok, Err, Some, ℕ, List, fold, length, true};
+ghost use Rattle.std.specs.Prelude.{◌≡◌, ◌↔◌, ◌+◌, ◌++◌, ◌∷◌, [], Ok, Err, Some, ℕ, List, fold, true};
 ghost use Rattle.tags.specs.Bytes.{tab};
 ghost use Rattle.tags.specs.Escapes.{decoded};
 ghost use Rattle.tags.specs.Fault.{Reading, contents, tags_of, IsFaultless, IsFirstFault};
@@ -11,7 +11,7 @@ ghost use Rattle.tags.specs.Steps.Readings.{reading_of};
 ghost use Rattle.tags.specs.Parts.{parts_in};
 ghost use Rattle.tags.specs.Steps.Reading.{ordinary_of};
 ghost use Rattle.tags.specs.Steps.Said.{said_by, said_without_address};
-ghost use Rattle.tags.specs.States.{Summary, counted, listed, next, running, state_after, stopped, summary_of};
+ghost use Rattle.tags.specs.States.{Summary, listed, next, running, state_after, stopped, summary_of};
 ghost use Rattle.tags.specs.Values.{TagValue};
 ghost use Rattle.tags.specs.Written.{IsWritten};
 ghost use Rattle.tags.specs.declared.code.Code.{Code};
@@ -58,15 +58,6 @@ pub fn state_law()
     ensures running { (lines : List Reading) (s : Summary (List TagValue)) → state_after listed [] lines ≡ running s
         → IsFaultless lines × (s ≡ summary_of (tags_of (contents lines)) (contents lines)) }
     ensures stays { (lines : List Reading) (n : ℕ) (c : Code) → fold (next listed) (stopped n c) lines ≡ stopped n c }
-{}
-
-/// The same of a checker, which keeps the number of the tags.
-pub fn count_law()
-    ensures stopped { (lines : List Reading) (n : ℕ) (c : Code) → state_after counted 0 lines ≡ stopped n c
-        → (k : ℕ) × (n ≡ k + 1) × IsFirstFault lines k c }
-    ensures running { (lines : List Reading) (s : Summary ℕ) → state_after counted 0 lines ≡ running s
-        → IsFaultless lines × (s ≡ summary_of (length (tags_of (contents lines))) (contents lines)) }
-    ensures stays { (lines : List Reading) (n : ℕ) (c : Code) → fold (next counted) (stopped n c) lines ≡ stopped n c }
 {}
 
 /// A text has its tags where no line is faulty, and else its first fault. The lines of the tags

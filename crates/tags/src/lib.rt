@@ -1,5 +1,5 @@
-//! Tags files as Universal Ctags writes them (tags(5), format 2): a checker that counts tags, a
-//! reader that keeps them, and the parts of one line.
+//! Tags files as Universal Ctags writes them (tags(5), format 2): a count of the tags of a reader's
+//! bytes, a reader of lines that keeps the tags, and the parts of one line.
 #![tactic(auto)]
 
 mod address;
@@ -7,6 +7,7 @@ mod around;
 mod checker;
 mod code;
 mod content;
+mod counting;
 mod cut;
 mod escape;
 mod fields;
@@ -17,9 +18,9 @@ mod parts;
 mod reader;
 mod tag;
 
-pub use checker::TagChecker;
 pub use code::{Code, LineFault, SplitFault, TagsFault};
-pub use laws::{count_law, escape_law, grammar_law, lines_law, reading_law, state_law, text_law};
+pub use counting::{CountFault, count_tags};
+pub use laws::{escape_law, grammar_law, lines_law, reading_law, state_law, text_law};
 pub use limits::LONGEST_LINE;
 pub use parts::{Part, split};
 pub use reader::{TagReader, read_tags};

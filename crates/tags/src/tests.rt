@@ -1,7 +1,8 @@
 //! Tags files that are read or counted, their faults and their limits; and the parts of lines.
+use crate::checker::TagChecker;
 use crate::{
-    Code, LineFault, Part, SplitFault, Tag, TagChecker, TagReader, TagsFault, count_law,
-    escape_law, grammar_law, lines_law, read_tags, reading_law, split, state_law, text_law,
+    Code, LineFault, Part, SplitFault, Tag, TagReader, TagsFault, escape_law, grammar_law,
+    lines_law, read_tags, reading_law, split, state_law, text_law,
 };
 use std::alloc::{AllocError, Global};
 use std::test::Fail;
@@ -324,7 +325,6 @@ fn limits_of_a_checker(rt: HostRuntime) -> Result<(), Fail> {
     assert_eq!(rt; not_utf_8, Some(LineFault { line: 1, code }));
     let names = [b"aaa\tf\t1".as_slice(), b"b\tf\t1", b"cc\tf\t1"];
     assert_eq!(rt; check_lines(rt.alloc(), &names, true), Ok(3));
-    count_law();
     Ok(())
 }
 

@@ -10,11 +10,12 @@ use dump::{
     listing_law, nesting_law, own_law, path_law, pick_law, read_dump, read_line, role_of, uri_law,
     vertex_law,
 };
-use lsif::{Counted, Id, IdRef, Profile, Property, REQUESTS, Vertex};
+use lsif::{Id, IdRef, Profile, Property, REQUESTS, Vertex};
 use samples::{made_dump, text_of};
 use std::alloc::Global;
 use std::process::Abort;
 use std::test::Fail;
+use streams::Counted;
 
 const META_DATA: &str = r#"{"id":1,"type":"vertex","label":"metaData","version":"0.6.0"}"#;
 

@@ -4,13 +4,14 @@ ghost use Rattle.std.specs.Prelude.{◌≡◌, is_err, true};
 
 use crate::asserts::expect_equal_text;
 use http_edge::serve_stream;
-use lsif::{Counted, RequestKind};
+use lsif::RequestKind;
 use machine::{Change, Command, Desk, DocUri, Key, ProjectName, Query, Reply, Upload};
 use positions::Position;
 use samples::{Slow, parted, slow_writer};
 use std::alloc::{AllocError, Global};
 use std::process::Abort;
 use std::test::Fail;
+use streams::Counted;
 
 /// The request behind an upload.
 const NEXT: &str = "GET /projects HTTP/1.1\r\nContent-Length: 0\r\n\r\n";

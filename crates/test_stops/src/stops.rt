@@ -2,7 +2,6 @@
 //! what a new start finds, and what comes of uploads that are sent again.
 use desk::TableDesk;
 use http_edge::serve_stream;
-use lsif::Counted;
 use sample_stores::{Lived, connected, files_of, fuses, opened, reopened};
 use samples::{Slow, exchange, in_pieces, reply_of, slow_writer};
 use sqlite::{Alter, Connection, Files};
@@ -10,6 +9,7 @@ use sqlite_disk::{Fuse, Memory};
 use std::alloc::Global;
 use std::process::Abort;
 use std::test::Fail;
+use streams::Counted;
 use tables::{Tables, TablesFault};
 
 /// A dump under a key, and another, in which a range starts elsewhere, under a second; written as

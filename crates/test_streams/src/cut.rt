@@ -4,13 +4,13 @@ use crate::asserts::{expect_equal, expect_equal_text};
 use crate::replies::{expect, replay_new};
 use desk::{MemoryDesk, PlainDesk, TableDesk};
 use http_edge::{ServeFault, serve_stream};
-use lsif::Counted;
 use samples::{
     NO_PROJECTS, PROJECTS, Slow, UPLOADS, exchange, in_pieces, reply_of, slow_writer, there,
 };
 use std::alloc::Global;
 use std::process::Abort;
 use std::test::Fail;
+use streams::Counted;
 
 /// A command whose reply the writer fails to take, behind what is asked before it and before what
 /// is asked after it.

@@ -3,11 +3,11 @@
 use crate::asserts::expect_equal;
 use desk::{MemoryDesk, TableDesk};
 use http_edge::{ServeFault, serve_stream};
-use lsif::Counted;
 use samples::{NO_PROJECTS, PROJECTS, Pieces, Slow, UPLOADS, exchange, in_pieces, slow_writer};
 use std::alloc::Global;
 use std::process::Abort;
 use std::test::Fail;
+use streams::Counted;
 
 /// Streams, split by empty lines, each over an index that is empty at first: what is asked, what
 /// is uploaded after ` < `, and after ` => ` the status and the body of the reply. A dump has its

@@ -1,7 +1,7 @@
 -- What the parts of a check answer, and how they fail.
 use Rattle.std.specs.Prelude.{ℕ, ◌+◌, [], Result, Ok, Err, ◌≡◌}
-use Rattle.lsif.specs.Sending.{Writes, CutsShort}
-use Rattle.lsif.specs.Streams.{Output}
+use Rattle.streams.specs.Sending.{Writes, CutsShort}
+use Rattle.streams.specs.Streams.{Output}
 use Rattle.codenav.specs.Report.{report_text, status_of}
 use Rattle.codenav.specs.declared.report.CheckFault.{CheckFault}
 use Rattle.codenav.specs.declared.report.CheckFault.TheVariants as faults

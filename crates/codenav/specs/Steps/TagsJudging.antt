@@ -1,6 +1,6 @@
 -- What the parts of a check of a tags file answer.
 use Rattle.std.specs.Prelude.{◌≡◌, ℕ, ◌+◌, ◌-◌, List, [], ◌∷◌, fold, Option, Some, None, Result, Ok, Err, ⊤}
-use Rattle.lsif.specs.Lines.{LineBufferValue}
+use Rattle.streams.specs.Lines.{LineBufferValue}
 use Rattle.tags.specs.States.{Summary, State, running, stopped, counted, next, state_after, IsRunning}
 use Rattle.tags.specs.Fault.{Reading, most_lines}
 use Rattle.tags.specs.Lines.{longest_line}

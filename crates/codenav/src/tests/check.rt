@@ -4,12 +4,13 @@ use super::asserts::expect_equal;
 use crate::check::check_lsif;
 use crate::check_tags::check_tags;
 use crate::report::{CheckFault, Status};
-use lsif::{Counted, Profile};
+use lsif::Profile;
 use samples::named::BASE;
 use samples::{Marks, Pieces, Slow, changed, in_pieces, parted, slow_writer, text_of, there};
 use std::alloc::Global;
 use std::process::Abort;
 use std::test::Fail;
+use streams::Counted;
 
 /// What a file is checked as: a dump, in a profile, or a tags file.
 #[derive(Clone, Copy, Debug)]

@@ -1,11 +1,11 @@
 //! Databases in files: what a second start answers, and what a migration keeps.
 use crate::database::{close_connection, connect_file, migrate_file};
 use crate::replay::replay_file;
-use lsif::Counted;
 use samples::{Slow, exchange, in_pieces, slow_writer};
 use sqlite::{Alter, Connection, Unknown};
 use std::fs;
 use std::test::Fail;
+use streams::Counted;
 use tables::TablesFault;
 
 /// Uploads of two dumps under two keys, the first of them a second time, and what is found then;

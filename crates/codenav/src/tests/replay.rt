@@ -2,9 +2,9 @@
 //! `test_streams`, over the desk that this call is of.
 use super::asserts::expect_equal;
 use crate::replay::replay_in_memory;
-use lsif::Counted;
 use samples::{Slow, UPLOADS, exchange, in_pieces, slow_writer};
 use std::test::Fail;
+use streams::Counted;
 
 /// Uploads under keys, one of them a second time, and tags.
 #[test]

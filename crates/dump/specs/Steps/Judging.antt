@@ -2,7 +2,7 @@
 use Rattle.std.specs.Prelude.{ℕ, ◌+◌, ◌-◌, List, [], ◌∷◌, ◌++◌, length, Option, Some, None, Result, Ok, Err, ⊤, ◌≡◌, true}
 use Rattle.lsif.specs.Element.{Reading}
 use Rattle.lsif.specs.Code.{is_shape_code}
-use Rattle.lsif.specs.Lines.{LineBufferValue}
+use Rattle.streams.specs.Lines.{LineBufferValue}
 use Rattle.lsif.specs.Reading.{longest_line}
 use Rattle.lsif.specs.declared.code.Code.{Code}
 use Rattle.lsif.specs.declared.element.Element.{Element}

@@ -5,7 +5,7 @@ use Rattle.machine.specs.Reply.{ReplyValue}
 use Rattle.machine.specs.Requests.{command, request_value}
 use Rattle.machine.specs.Runs.{KnowsReply}
 use Rattle.machine.specs.Uploads.{HasRead, UploadValue, command_of}
-use Rattle.lsif.specs.Streams.{Moves, AtEnd}
+use Rattle.streams.specs.Streams.{Moves, AtEnd}
 use Rattle.http_edge.specs.Heads.{HeadValue, rejected, SettlesHead, IsHeadUnended}
 use Rattle.http_edge.specs.Messages.{Settles, IsUnended, ends}
 use Rattle.http_edge.specs.Requests.{MessageValue, request, refused, message_of}

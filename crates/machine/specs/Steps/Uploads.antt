@@ -1,8 +1,8 @@
 -- The lines of an upload, taken one after another.
 use Rattle.std.specs.Prelude.{◌≡◌, ◌≢◌, ◌⊎◌, ℕ, Bool, true, false, List, fold, Result, ⊤}
-use Rattle.lsif.specs.Pieces.{CutterValue, begun}
+use Rattle.streams.specs.Pieces.{CutterValue, begun}
 use Rattle.lsif.specs.Reading.{reading}
-use Rattle.lsif.specs.declared.cutter.LineState.TheVariants.{TooLong}
+use Rattle.streams.specs.declared.cutter.LineState.TheVariants.{TooLong}
 use Rattle.dump.specs.Progress as dumps
 use Rattle.tags.specs.States as tags
 use Rattle.tags.specs.States.{listed}

@@ -1,11 +1,12 @@
 //! The conflicts of spans with others and with each other.
 use crate::asserts::expect_equal;
 use dump::{DumpFault, LineFault, read_dump};
-use lsif::{Code, Counted, Profile};
+use lsif::{Code, Profile};
 use samples::{NUMBERS, push_line, text_of};
 use std::alloc::Global;
 use std::process::Abort;
 use std::test::Fail;
+use streams::Counted;
 
 /// From a line and a character up to a line and a character.
 type Ends = (u32, u32, u32, u32);

@@ -1,8 +1,8 @@
 //! Lines of texts that come in pieces.
 use crate::asserts::expect_equal_text;
-use lsif::Cutter;
 use std::alloc::{AllocError, Global};
 use std::test::Fail;
+use streams::Cutter;
 
 /// Adds the lines that the piece ends, or why the cutter takes no more, and says whether it goes
 /// on.

@@ -1,14 +1,14 @@
 //! Lines of input that comes in pieces, and callers that the contracts alone prove.
 ghost use Rattle.std.specs.Prelude.{◌≡◌, ◌+◌, length, IfOk, IfSome};
-ghost use Rattle.lsif.specs.Buffered.{unread};
-ghost use Rattle.lsif.specs.Lines.{lines_of};
-ghost use Rattle.lsif.specs.Streams.{IsCountable};
+ghost use Rattle.streams.specs.Buffered.{unread};
+ghost use Rattle.streams.specs.Lines.{lines_of};
+ghost use Rattle.streams.specs.Streams.{IsCountable};
 
 use crate::asserts::expect_equal_text;
-use lsif::{Counted, LineBuffer, Lines, LinesFault, Source};
 use samples::{Pieces, in_pieces};
 use std::alloc::Global;
 use std::test::Fail;
+use streams::{Counted, LineBuffer, Lines, LinesFault, Source};
 
 /// How many lines are left, where they are fewer than `u64::MAX`.
 fn count_lines<S: Source>(lines: &mut Lines<S>) -> Result<Option<u64>, LinesFault>

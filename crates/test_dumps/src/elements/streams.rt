@@ -1,9 +1,9 @@
 //! Readers and writers of the standard library under the counts.
 use crate::asserts::expect_equal_text;
-use lsif::{Counted, Sink, Source, counted_law};
 use samples::slow_writer;
 use std::alloc::Global;
 use std::test::Fail;
+use streams::{Counted, Sink, Source, counted_law};
 
 /// Pulls three times of a slice: the answers, with the bytes of the room after each.
 fn slice_pulls(alloc: Global) -> Result<String, Fail> {

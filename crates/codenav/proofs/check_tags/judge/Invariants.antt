@@ -1,5 +1,5 @@
 use Rattle.std.proofs.Common.{◌≡◌}
-use Rattle.lsif.specs.Buffered.{unread}
+use Rattle.streams.specs.Buffered.{unread}
 use Rattle.codenav.specs.Steps.TagsJudging.{HasTaken, IsReady, room_of}
 use Rattle.codenav.proofs.check_tags.judge.Given as goal
 

@@ -1,6 +1,6 @@
 use Rattle.std.proofs.Common.{◌≡◌, ◌∙◌, rules, sym, subst, Some, None, Err}
 use Rattle.lsif.specs.Element.{reading_value}
-use Rattle.lsif.specs.Buffered.{unread}
+use Rattle.streams.specs.Buffered.{unread}
 use Rattle.dump.specs.Progress.{next}
 use Rattle.dump.specs.Judging.{ReadsDump}
 use Rattle.dump.specs.Steps.Judging.{ReadsNext, GoesOn}

@@ -1,5 +1,5 @@
 use Rattle.std.proofs.Common.{◌≡◌}
-use Rattle.lsif.specs.Buffered.{unread}
+use Rattle.streams.specs.Buffered.{unread}
 use Rattle.dump.specs.Progress.{IsRunning}
 use Rattle.dump.specs.Steps.Judging.{HasTaken, IsReady, room_of}
 use Rattle.dump.proofs.reading.take_lines.Given as goal

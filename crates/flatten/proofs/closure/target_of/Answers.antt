@@ -4,8 +4,8 @@ use Rattle.std.specs.Bool.{then_some}
 use Rattle.std.specs.List.Sorted.{IsNonDecreasingBy, IsPartitionPoint}
 use Rattle.std.proofs.lemmas.List.{get_or_default}
 use Rattle.std.proofs.lemmas.List.Elements.{Contains-get_or}
-use Rattle.flatten.proofs.Listing.{eq_of}
-use Rattle.flatten.proofs.Members.{contains_cases, not_in_nil}
+use Rattle.streams.proofs.Bools.{eq_of}
+use Rattle.streams.proofs.Members.{contains_cases, not_in_nil}
 use Rattle.flatten.proofs.closure.target_of.Goals as goal
 
 -- where a member is

@@ -9,7 +9,7 @@ use Rattle.flatten.specs.Rows.{document_value}
 use Rattle.flatten.specs.Steps.Documents.{documents_in}
 use Rattle.flatten.specs.Steps.Kinds.{AreThose, is_document, said}
 use Rattle.flatten.proofs.DocumentLists.{documents_are}
-use Rattle.flatten.proofs.Listing.{same_listing}
+use Rattle.dump.proofs.Listing.{same_listing}
 use Rattle.flatten.proofs.OfKinds.{documents_of}
 use Rattle.flatten.proofs.documents.document_rows.Goals as goal
 

@@ -2,7 +2,7 @@ use Rattle.std.specs.Cmp.Lexicographic.{slice_cmp}
 use Rattle.std.specs.Ordering.{nat_cmp}
 use Rattle.std.proofs.lemmas.List.Filters.{dedup_is}
 use Rattle.flatten.specs.Rows.{document_value}
-use Rattle.flatten.proofs.Listing.{sorted_listing}
+use Rattle.dump.proofs.Listing.{sorted_listing}
 use Rattle.flatten.proofs.RowOrders.{document_total, document_ties, document_same}
 use Rattle.flatten.proofs.documents.list_documents.Goals as goal
 

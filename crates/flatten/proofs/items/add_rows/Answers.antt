@@ -1,7 +1,7 @@
 use Rattle.std.proofs.Common.{◌≡◌, ◌∙◌, ◌+◌, ◌++◌, ◌<◌, ℕ, List, [], ◌∷◌, length, map, drop, get_or, sym, ap, subst, append_assoc}
 use Rattle.std.proofs.lemmas.List.{map-append}
 use Rattle.std.proofs.lemmas.List.Elements.{All-get_or, All-push}
-use Rattle.dump.proofs.Lists.{drop_next}
+use Rattle.streams.proofs.Lists.{drop_next}
 use Rattle.dump.specs.declared.role.Role.{Role}
 use Rattle.flatten.specs.Steps.Items.{AreNumberedRows, found_value, row_of}
 use Rattle.flatten.specs.Steps.Places.{IsNumbered}

@@ -10,7 +10,7 @@ use Rattle.flatten.specs.Flat.{item_cmp}
 use Rattle.flatten.specs.Steps.Items.{AreNumberedRows, found_value, numbers_value}
 use Rattle.flatten.specs.Steps.Places.{IsNumbered}
 use Rattle.flatten.specs.declared.items.FoundItem.{FoundItem}
-use Rattle.flatten.proofs.Listing.{sorted_listing, under}
+use Rattle.dump.proofs.Listing.{sorted_listing, under}
 use Rattle.flatten.proofs.ItemListings.{same_values}
 use Rattle.flatten.proofs.RowOrders.{item_total, item_same}
 use Rattle.flatten.proofs.items.list_items.Goals as goal

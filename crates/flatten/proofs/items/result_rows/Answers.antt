@@ -10,7 +10,7 @@ use Rattle.flatten.specs.Steps.Items.{IsReachedRow, numbers_in}
 use Rattle.flatten.specs.Steps.Tables.{OfOne}
 use Rattle.flatten.proofs.ItemListings.{listing_none, next_listing, results_rise}
 use Rattle.flatten.proofs.ItemRows.{item_rows_are}
-use Rattle.flatten.proofs.Listing.{same_listing}
+use Rattle.dump.proofs.Listing.{same_listing}
 use Rattle.flatten.proofs.NumberPairs.{number_ones}
 use Rattle.flatten.proofs.items.result_rows.Goals as goal
 

@@ -5,7 +5,8 @@ use Rattle.std.specs.Prelude.{Contains, Ok}
 use Rattle.std.specs.List.{All}
 use Rattle.std.proofs.lemmas.List.Elements.{All-cons, All-contains, All-nil, Contains-get_or}
 use Rattle.lsif.specs.Element.{element_value, range, vertex}
-use Rattle.dump.proofs.Lists.{drop_next}
+use Rattle.streams.proofs.Lists.{drop_next}
+use Rattle.streams.proofs.Members.{contains_map}
 use Rattle.dump.specs.Fault.{IsFaultless}
 use Rattle.dump.specs.declared.checker.CheckedDump.{CheckedDump}
 use Rattle.dump.specs.Places.{IsListing}
@@ -15,7 +16,6 @@ use Rattle.flatten.specs.Steps.Documents.{hovers_in}
 use Rattle.flatten.specs.Steps.Parents.{IsWithinLimit, interval_value, intervals_in}
 use Rattle.flatten.specs.Steps.Ranges.{IsFoundRange, range_lines}
 use Rattle.flatten.proofs.DocumentLists.{hover_listing}
-use Rattle.flatten.proofs.Members.{contains_map}
 use Rattle.flatten.proofs.OfKinds.{AreTaken, HasSaid, said_all, said_at, said_more, taken_all, taken_more}
 use Rattle.flatten.proofs.kinds.add_all.Goals as goal
 

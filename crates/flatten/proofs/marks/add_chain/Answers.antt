@@ -8,7 +8,7 @@ use Rattle.flatten.specs.Steps.Chains.{AlongValue}
 use Rattle.flatten.specs.Steps.Borne.{mark_values}
 use Rattle.flatten.specs.Steps.Marks.{IsMarkAlong, IsMarkOfVertex}
 use Rattle.flatten.specs.Steps.Tables.{Adds}
-use Rattle.flatten.proofs.Members.{none_of}
+use Rattle.streams.proofs.Members.{none_of}
 use Rattle.flatten.proofs.MarkRows.{Passing, passing_end, passing_first, passing_full, passing_on}
 use Rattle.flatten.proofs.marks.add_chain.Goals as goal
 

@@ -9,9 +9,9 @@ use Rattle.flatten.specs.Flat.{IsBearerRow, MarkRowValue, mark_cmp}
 use Rattle.flatten.specs.Rows.{bearer_value, mark_value as mark_row_value}
 use Rattle.flatten.specs.Steps.Borne.{MarkText, mark_values}
 use Rattle.flatten.specs.Steps.Marks.{IsBorneMark, IsBorneRow, bearer_mark}
-use Rattle.flatten.proofs.Listing.{same_listing}
+use Rattle.streams.proofs.Members.{nil_of}
+use Rattle.dump.proofs.Listing.{same_listing}
 use Rattle.flatten.proofs.MarkRows.{all_left, bearer_listing, borne_rows, next_is, one_less}
-use Rattle.flatten.proofs.Members.{nil_of}
 use Rattle.flatten.proofs.NumberPairs.{number_ones}
 use Rattle.flatten.proofs.marks.bearer_rows.Goals as goal
 

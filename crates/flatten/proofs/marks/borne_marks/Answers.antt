@@ -7,8 +7,8 @@ use Rattle.flatten.specs.Flat.{MarkRowValue, mark_cmp}
 use Rattle.flatten.specs.Rows.{mark_value as mark_row_value}
 use Rattle.flatten.specs.Steps.Borne.{mark_values}
 use Rattle.flatten.specs.Steps.Marks.{IsBorneMark, mark_of}
-use Rattle.flatten.proofs.Listing.{same_listing}
-use Rattle.flatten.proofs.Members.{flat_from, flat_of}
+use Rattle.streams.proofs.Members.{flat_from, flat_of}
+use Rattle.dump.proofs.Listing.{same_listing}
 use Rattle.flatten.proofs.marks.borne_marks.Goals as goal
 
 pub returns : goal.returns

@@ -5,7 +5,7 @@ use Rattle.std.proofs.lemmas.List.Filters.{dedup_is}
 use Rattle.std.proofs.lemmas.List.Sorted.{ranks_by, answers_always}
 use Rattle.flatten.specs.Flat.{mark_cmp}
 use Rattle.flatten.specs.Rows.{mark_value}
-use Rattle.flatten.proofs.Listing.{sorted_listing, under}
+use Rattle.dump.proofs.Listing.{sorted_listing, under}
 use Rattle.flatten.proofs.RowOrders.{mark_total, mark_ties, mark_same}
 use Rattle.flatten.proofs.marks.list_rows.Goals as goal
 

@@ -4,7 +4,7 @@ use Rattle.std.specs.Ordering.{is_lt}
 use Rattle.std.proofs.lemmas.List.Filters.{dedup_is}
 use Rattle.std.proofs.lemmas.List.Sorted.{ranks_by, answers_always}
 use Rattle.flatten.specs.Steps.Parents.{interval_cmp, interval_value}
-use Rattle.flatten.proofs.Listing.{sorted_listing, under}
+use Rattle.dump.proofs.Listing.{sorted_listing, under}
 use Rattle.flatten.proofs.RowOrders.{interval_total, interval_ties, interval_same}
 use Rattle.flatten.proofs.parents.list_intervals.Goals as goal
 

@@ -1,5 +1,5 @@
 use Rattle.std.proofs.Common.{◌≡◌, ◌-◌, ◌++◌, ℕ, List, length}
-use Rattle.lsif.specs.Streams.{Moves}
+use Rattle.streams.specs.Streams.{Moves}
 use Rattle.http_edge.proofs.reading.next_head.Given as goal
 
 abbrev pub invariant-reading : goal.invariant-reading

@@ -1,5 +1,5 @@
 use Rattle.std.proofs.Common.{◌≡◌, ◌+◌, ◌++◌, ℕ, List, [], length}
-use Rattle.lsif.specs.Streams.{Moves}
+use Rattle.streams.specs.Streams.{Moves}
 use Rattle.http_edge.specs.Steps.Serving.{MessageAfter, known_of}
 use Rattle.http_edge.proofs.reading.read_body.Given as goal
 

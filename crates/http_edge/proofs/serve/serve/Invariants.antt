@@ -1,6 +1,6 @@
 use Rattle.std.proofs.Common.{◌≡◌, ◌-◌, ◌≤◌, ℕ, List, length}
-use Rattle.lsif.specs.Streams.{Moves, SameCounts}
-use Rattle.lsif.specs.Sending.{Writes}
+use Rattle.streams.specs.Streams.{Moves, SameCounts}
+use Rattle.streams.specs.Sending.{Writes}
 use Rattle.http_edge.specs.Steps.Messages.{SettlesAll}
 use Rattle.http_edge.specs.Requests.{MessageValue}
 use Rattle.machine.specs.State.{State}

@@ -5,7 +5,7 @@ use Rattle.serde_json.specs.Written.{compact_text, items_text}
 use Rattle.machine.specs.Found.{tag_found}
 use Rattle.machine.specs.Reply.{tag_data, tags_data}
 use Rattle.machine.proofs.ListTexts.{list_step, tags_text}
-use Rattle.machine.proofs.Members.{drop_next}
+use Rattle.streams.proofs.Lists.{drop_next}
 use Rattle.machine.proofs.bodies.tags_found.Goals as goal
 
 pub loop-found-preserved : goal.loop-found-preserved

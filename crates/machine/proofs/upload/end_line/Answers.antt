@@ -1,5 +1,5 @@
 use Rattle.std.proofs.Common.{◌≡◌, ◌∙◌, Some, None, refl, rules, subst, ap, false}
-use Rattle.lsif.specs.Pieces.{begun, rest_in}
+use Rattle.streams.specs.Pieces.{begun, rest_in}
 use Rattle.machine.specs.Judging.{judged}
 use Rattle.machine.specs.Uploads.{action_of}
 use Rattle.machine.specs.Steps.Uploads.{TookBody, next, said, taken}

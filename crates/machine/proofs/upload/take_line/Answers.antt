@@ -1,7 +1,7 @@
 use Rattle.std.proofs.Common.{◌≡◌, ◌++◌, rules, refl, true, sym, subst, Some, Err}
 use Rattle.std.proofs.Math.Seq.{take-length}
-use Rattle.lsif.specs.Pieces.{Takes, line_in}
-use Rattle.lsif.specs.declared.lines.LinesFault.TheVariants as faults
+use Rattle.streams.specs.Pieces.{Takes, line_in}
+use Rattle.streams.specs.declared.lines.LinesFault.TheVariants as faults
 use Rattle.machine.specs.Steps.Uploads.{StandsBy, body_value, next, taken}
 use Rattle.machine.proofs.TakenLines.{ended_goes, ended_stands, long_stands, state_after, state_long, too_long}
 use Rattle.machine.proofs.upload.take_line.Goals as goal

@@ -4,7 +4,7 @@ use Rattle.std.specs.List.Sorted.{IsSorted}
 use Rattle.std.specs.List.{dedup}
 use Rattle.std.proofs.lemmas.Fn.{dedup_same}
 use Rattle.std.proofs.lemmas.List.Sorted.{ranks_by, answers_always}
-use Rattle.flatten.proofs.Listing.{under}
+use Rattle.dump.proofs.Listing.{under}
 use Rattle.machine.specs.Selections.{bearer_found, bearer_found_cmp}
 use Rattle.tables.proofs.BearerOrder.{bearer_total, bearers_listed, same_place}
 use Rattle.tables.proofs.bearers.list_bearers.Goals as goal

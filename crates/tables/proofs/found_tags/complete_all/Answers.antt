@@ -1,6 +1,6 @@
 use Rattle.std.proofs.Common.{◌≡◌, ◌++◌, [], ◌∷◌, map, option_map, rules, arith}
 use Rattle.sqlite.specs.Held.{state}
-use Rattle.flatten.proofs.Members.{nil_of}
+use Rattle.streams.proofs.Members.{nil_of}
 use Rattle.tables.specs.Stands.{StandsFor}
 use Rattle.machine.specs.Found.{tag_found}
 use Rattle.tables.specs.Steps.TagRows.{IsFoundIf, TellsTag}

@@ -1,5 +1,5 @@
 use Rattle.std.proofs.lemmas.List.Filters.{dedup_is}
-use Rattle.flatten.proofs.Listing.{sorted_listing}
+use Rattle.dump.proofs.Listing.{sorted_listing}
 use Rattle.dump.specs.Places.{place_cmp}
 use Rattle.machine.specs.Selections.{item_found}
 use Rattle.tables.proofs.FoundItems.{item_total, item_tie, item_one}

@@ -3,7 +3,7 @@ use Rattle.std.specs.Ordering.{is_lt}
 use Rattle.std.specs.List.Sorted.{IsSorted}
 use Rattle.std.proofs.lemmas.List.Filters.{dedup_is}
 use Rattle.std.proofs.lemmas.List.Sorted.{ranks_by, answers_always}
-use Rattle.flatten.proofs.Listing.{sorted_listing, under}
+use Rattle.dump.proofs.Listing.{sorted_listing, under}
 use Rattle.machine.specs.Selections.{mark_text_cmp, mark_found}
 use Rattle.tables.proofs.FoundMarks.{mark_total, mark_tie, mark_one}
 use Rattle.tables.proofs.marks.list_marks.Goals as goal

@@ -1,6 +1,6 @@
 use Rattle.std.proofs.Common.{rules, List, ℕ, map, option_map, ◌↔◌, Contains}
 use Rattle.sqlite.specs.Held.{state}
-use Rattle.flatten.proofs.Listing.{same_listing}
+use Rattle.dump.proofs.Listing.{same_listing}
 use Rattle.tables.specs.Stands.{StandsFor}
 use Rattle.machine.specs.FoundTags.{FoundTag, BeginsWith, IsAsked, name_cmp}
 use Rattle.machine.specs.Found.{tag_found}

@@ -2,7 +2,7 @@ use Rattle.std.proofs.Common.{◌≡◌, true, length, subst, rules}
 use Rattle.std.specs.List.{AllAdjacentBelow}
 use Rattle.std.specs.Ordering.{is_lt}
 use Rattle.std.proofs.lemmas.List.Sorted.{answers_always}
-use Rattle.flatten.proofs.Listing.{under}
+use Rattle.dump.proofs.Listing.{under}
 use Rattle.machine.specs.FoundTags.{name_cmp}
 use Rattle.machine.specs.Found.{tag_found}
 use Rattle.tables.proofs.TagOrder.{name_total, listed}

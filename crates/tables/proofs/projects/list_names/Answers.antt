@@ -1,5 +1,5 @@
 use Rattle.std.proofs.lemmas.List.Filters.{dedup_is}
-use Rattle.flatten.proofs.Listing.{sorted_listing}
+use Rattle.dump.proofs.Listing.{sorted_listing}
 use Rattle.machine.specs.Projects.{text_cmp}
 use Rattle.tables.proofs.ProjectNames.{text_of, name_total, name_tie, name_one}
 use Rattle.tables.proofs.projects.list_names.Goals as goal

@@ -3,7 +3,7 @@ use Rattle.std.specs.List.{AllByRecursion}
 use Rattle.std.proofs.lemmas.List.{map-append}
 use Rattle.sqlite.specs.Held.{state}
 use Rattle.dump.specs.Places.{IsListing}
-use Rattle.flatten.proofs.Members.{nil_of}
+use Rattle.streams.proofs.Members.{nil_of}
 use Rattle.tables.specs.Stands.{StandsFor}
 use Rattle.machine.specs.Projects.{text_cmp}
 use Rattle.machine.specs.Found.{project_found}

@@ -1,5 +1,5 @@
 use Rattle.std.proofs.Common.{◌≡◌, ◌++◌, [], ◌∷◌, rules, arith}
-use Rattle.flatten.proofs.Members.{nil_of}
+use Rattle.streams.proofs.Members.{nil_of}
 use Rattle.machine.specs.Selections.{bearer_found}
 use Rattle.desk.specs.Steps.Rows.{OfBearer, joined_value}
 use Rattle.desk.proofs.Finding.{iff_sym, iff_trans, or_none}

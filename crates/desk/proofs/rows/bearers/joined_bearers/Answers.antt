@@ -2,7 +2,7 @@ use Rattle.std.proofs.Common.{◌+◌, ◌⊎◌, drop, map, sym, subst, string_
 use Rattle.std.specs.Prelude.{◌↔◌, Contains}
 use Rattle.desk.specs.Steps.Rows.{AreJoined, IsKeyJoined, joined_value}
 use Rattle.desk.proofs.Finding.{iff_sym, iff_trans, or_none, or_step}
-use Rattle.machine.proofs.Members.{drop_next}
+use Rattle.streams.proofs.Lists.{drop_next}
 use Rattle.desk.proofs.RowLists.{drop_end, keys_more, keys_none}
 use Rattle.desk.proofs.ReadingOnly.{reads_then}
 use Rattle.desk.proofs.rows.bearers.joined_bearers.Goals as goal

@@ -1,6 +1,6 @@
 use Rattle.std.proofs.Common.{◌≡◌, ◌++◌, [], ◌∷◌, ℕ, List, rules, arith}
 use Rattle.dump.specs.Places.{PlaceValue}
-use Rattle.flatten.proofs.Members.{nil_of}
+use Rattle.streams.proofs.Members.{nil_of}
 use Rattle.machine.specs.Selections.{item_found}
 use Rattle.machine.specs.Reply.{FoundPlace}
 use Rattle.machine.specs.Steps.Places.{found_in}

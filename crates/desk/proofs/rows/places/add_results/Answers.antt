@@ -3,7 +3,7 @@ use Rattle.std.specs.Prelude.{◌↔◌, Contains}
 use Rattle.desk.specs.Steps.Rows.{IsPlaceOf, IsPlaceOfOne, ProjectResultValue, project_result_value}
 use Rattle.desk.specs.declared.rows.results.ProjectResult.{ProjectResult}
 use Rattle.desk.proofs.Finding.{iff_sym, iff_trans, or_none, or_step}
-use Rattle.machine.proofs.Members.{drop_next}
+use Rattle.streams.proofs.Lists.{drop_next}
 use Rattle.desk.proofs.RowLists.{drop_end, results_more, results_none}
 use Rattle.desk.proofs.ReadingOnly.{reads_then}
 use Rattle.desk.proofs.rows.places.add_results.Goals as goal

@@ -3,8 +3,8 @@ use Rattle.std.specs.Prelude.{Contains}
 use Rattle.std.proofs.lemmas.List.Filters.{dedup_is}
 use Rattle.machine.specs.Answers.{found_cmp}
 use Rattle.desk.specs.Steps.RowPlaces.{item_place}
-use Rattle.machine.proofs.Listing.{relisted}
-use Rattle.machine.proofs.Members.{not_in_nil}
+use Rattle.streams.proofs.Members.{not_in_nil}
+use Rattle.dump.proofs.Listing.{same_listing as relisted}
 use Rattle.desk.proofs.ListedRows.{items_listed}
 use Rattle.desk.proofs.RowLists.{without}
 use Rattle.desk.proofs.rows.places.places_of.Goals as goal

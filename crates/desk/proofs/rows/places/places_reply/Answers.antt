@@ -5,7 +5,7 @@ use Rattle.serde_json.specs.Written.{comma_if, compact_text, items_text}
 use Rattle.machine.specs.Reply.{place_data, places_data}
 use Rattle.desk.specs.Steps.RowPlaces.{item_place}
 use Rattle.machine.proofs.ListTexts.{list_step, places_text}
-use Rattle.machine.proofs.Members.{drop_next}
+use Rattle.streams.proofs.Lists.{drop_next}
 use Rattle.desk.proofs.rows.places.places_reply.Goals as goal
 
 pub loop-place-preserved : goal.loop-place-preserved

@@ -7,7 +7,7 @@ use Rattle.machine.specs.Reply.{places_found}
 use Rattle.machine.specs.Requests.{at_value}
 use Rattle.desk.specs.Steps.RowPlaces.{item_place}
 use Rattle.desk.specs.Steps.Rows.{IsAnsweringResult, IsPlaceOfOne, Picks, ProjectResultValue, project_result_value}
-use Rattle.machine.proofs.Listing.{relisted}
+use Rattle.dump.proofs.Listing.{same_listing as relisted}
 use Rattle.desk.proofs.RowAnswers.{no_range_places, renamed, row_places}
 use Rattle.desk.proofs.RowLists.{places_same}
 use Rattle.desk.proofs.rows.queries.places.Goals as goal

@@ -3,7 +3,7 @@ use Rattle.std.specs.Prelude.{Some, None}
 use Rattle.dump.specs.Requests.{IsFirst, here, later, nobody}
 use Rattle.machine.specs.Selections.{range_found}
 use Rattle.desk.specs.Steps.Rows.{RowSpeaks}
-use Rattle.machine.proofs.Members.{drop_next}
+use Rattle.streams.proofs.Lists.{drop_next}
 use Rattle.desk.proofs.ReadingOnly.{reads_then}
 use Rattle.desk.proofs.RowLists.{drop_end}
 use Rattle.desk.proofs.rows.ranges.first_speaking.Goals as goal

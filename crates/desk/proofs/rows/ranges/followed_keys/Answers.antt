@@ -1,7 +1,7 @@
 use Rattle.std.proofs.Common.{Global, ◌≡◌, ◌∙◌, ◌++◌, [], ◌∷◌, ℕ, List, true, false, sym, string_bytes, rules, arith}
 use Rattle.lsif.specs.declared.request_kind.RequestKind.{RequestKind}
 use Rattle.lsif.specs.RequestKinds.{follows}
-use Rattle.flatten.proofs.Members.{nil_of}
+use Rattle.streams.proofs.Members.{nil_of}
 use Rattle.machine.specs.Selections.{MarkText, mark_found}
 use Rattle.std.specs.Prelude.{String}
 use Rattle.desk.proofs.Finding.{iff_sym, iff_trans, or_none}

@@ -2,7 +2,7 @@ use Rattle.std.proofs.Common.{Global, ◌≡◌, ◌∙◌, ◌≤◌, inr, ⊎_
 use Rattle.std.specs.Prelude.{Contains, String, is_some}
 use Rattle.machine.specs.Selections.{range_found}
 use Rattle.desk.specs.Steps.Rows.{IsRowKey}
-use Rattle.machine.proofs.Members.{contains_head, not_in_nil}
+use Rattle.streams.proofs.Members.{contains_head, not_in_nil}
 use Rattle.desk.proofs.rows.ranges.speaks.Goals as goal
 
 some_text : (xs : List (String Global)) → 1 ≤ length xs → (text : List ℕ) × Contains (map string_bytes xs) text

@@ -1,5 +1,5 @@
 use Rattle.std.proofs.Common.{◌≡◌, ◌++◌, [], ◌∷◌, rules, arith}
-use Rattle.flatten.proofs.Members.{nil_of}
+use Rattle.streams.proofs.Members.{nil_of}
 use Rattle.desk.specs.Steps.Rows.{JoinedValue, ProjectResultValue, joined_value, project_result_value, result_of_joined}
 use Rattle.desk.specs.declared.rows.results.ProjectResult.{ProjectResult}
 use Rattle.desk.proofs.Finding.{iff_refl, iff_sym, iff_trans, or_none}

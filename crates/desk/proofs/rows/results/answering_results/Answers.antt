@@ -4,7 +4,7 @@ use Rattle.machine.specs.Selections.{range_found}
 use Rattle.desk.specs.Steps.Rows.{AreKeys, IsAnsweringResult, joined_value, project_result_cmp}
 use Rattle.desk.proofs.ListedRows.{project_results_listed}
 use Rattle.desk.proofs.RowLists.{results_are}
-use Rattle.machine.proofs.Listing.{relisted}
+use Rattle.dump.proofs.Listing.{same_listing as relisted}
 use Rattle.desk.proofs.rows.results.answering_results.Goals as goal
 
 pub returns-clause-found : goal.returns-clause-found

@@ -4,7 +4,7 @@ use Rattle.std.proofs.lemmas.List.Elements.{Contains-get_or}
 use Rattle.lsif.specs.Element.{id_value}
 use Rattle.flatten.specs.Flat.{number_of}
 use Rattle.flatten.specs.Steps.Chains.{vertex_along_value}
-use Rattle.flatten.proofs.Members.{contains_map}
+use Rattle.streams.proofs.Members.{contains_map}
 use Rattle.flatten.proofs.chains.Chains.found_at.Goals as goal
 
 pub returns-then-found-number : goal.returns-then-found-number

@@ -1,5 +1,5 @@
 use Rattle.std.proofs.Common.{◌∙◌, refl}
-use Rattle.lsif.proofs.Seen.{seen_none, seen_more}
+use Rattle.streams.proofs.Seen.{seen_none, seen_more}
 use Rattle.test_dumps.proofs.elements.lines.count_lines.Goals as goal
 
 pub loop-n-init : goal.loop-n-init

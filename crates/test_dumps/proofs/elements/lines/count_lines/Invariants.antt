@@ -1,5 +1,5 @@
 use Rattle.std.proofs.Common.{◌≡◌}
-use Rattle.lsif.proofs.Seen.{Seen}
+use Rattle.streams.proofs.Seen.{Seen}
 use Rattle.test_dumps.proofs.elements.lines.count_lines.Given as goal
 
 abbrev pub invariant-loop-n : goal.invariant-loop-n

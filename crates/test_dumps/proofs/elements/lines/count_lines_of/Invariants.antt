@@ -1,6 +1,6 @@
 use Rattle.std.proofs.Common.{◌≡◌}
-use Rattle.lsif.specs.Buffered.{unread}
-use Rattle.lsif.proofs.Seen.{Seen}
+use Rattle.streams.specs.Buffered.{unread}
+use Rattle.streams.proofs.Seen.{Seen}
 use Rattle.test_dumps.proofs.elements.lines.count_lines_of.Given as goal
 
 abbrev pub invariant-loop-n : goal.invariant-loop-n

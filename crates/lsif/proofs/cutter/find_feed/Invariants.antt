@@ -1,6 +1,0 @@
-use Rattle.std.proofs.Common.{take}
-use Rattle.lsif.specs.Lines.{IsLine}
-use Rattle.lsif.proofs.cutter.find_feed.Given as goal
-
-abbrev pub invariant-loop-k : goal.invariant-loop-k
-invariant-loop-k l = IsLine (take l.k l.bytes)

@@ -1,0 +1,9 @@
+pub mod Bools
+pub mod CutLines
+pub mod LinesOf
+pub mod Lists
+pub mod Members
+pub mod NextLines
+pub mod Seen
+pub mod Sendings
+pub mod Slices

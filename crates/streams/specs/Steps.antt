@@ -1,0 +1,2 @@
+-- What only private contracts and proofs name: steps of loops.
+pub mod Cutting
