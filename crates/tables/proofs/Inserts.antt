@@ -1,17 +1,13 @@
 -- The INSERT of each table.
-use Rattle.std.proofs.Common.{String, string_bytes, option_map, ◌/◌, suc, slice_get, ◌≡◌, ◌∙◌, ◌+◌, ◌==◌, eqb-true, arith, inl, inr, ℕ, ℤ, pos, Bool, true, false, cond, List, [], ◌∷◌, length, map, flat_map, Option, Some, None, refl, sym, ap, subst, IsTrue, Result, OnOk}
-use Rattle.std.proofs.lemmas.Bool.{cases_Bool}
+use Rattle.std.proofs.Common.{String, string_bytes, option_map, ◌/◌, suc, slice_get, ◌≡◌, ◌∙◌, ◌+◌, arith, ℕ, ℤ, pos, Bool, true, false, cond, List, [], ◌∷◌, length, map, flat_map, Option, Some, None, refl, ap, subst, IsTrue, Result, OnOk}
 use Rattle.sqlite_value.specs.declared.value.Value.{Value}
 use Rattle.sqlite_value.specs.declared.value.Value.TheVariants.{Null, Int, Text}
 use Rattle.sqlite_value.specs.Order.{Row}
 use Rattle.sqlite_sql.specs.Term.{lit, col}
 use Rattle.sqlite_sql.specs.Ops.{unary}
-use Rattle.sqlite_schema.specs.Names.{same_name}
-use Rattle.sqlite_schema.specs.declared.schema.Keys.TheVariants.{Enforced}
 use Rattle.sqlite_schema.specs.declared.schema.Kind.TheVariants.{Integer, Text as TextKind}
 use Rattle.sqlite_rules.specs.Cast.{cast, cast_row, cast_all as cast_columns}
 use Rattle.sqlite_schema.specs.declared.schema.Table.{Table}
-use Rattle.sqlite_rules.specs.Action.{works}
 use Rattle.sqlite.specs.declared.error.Error.{Error}
 use Rattle.sqlite.specs.State.{State, ExecutesInside}
 use Rattle.sqlite.specs.Effect.{value_rows}
@@ -77,10 +73,6 @@ pub bound_text : (o : Option (List ℕ)) → bound_value (optional_text o) ≡ o
 bound_text None = refl
 bound_text (Some text) = refl
 
--- there is a row
-pub some_rows : (row : Row) (more : List Row) → (length (row ∷ more) == 0) ≡ false
-some_rows row more = elim (cases_Bool (length (row ∷ more) == 0)) [ inl none ↦ absurd (omega (arith, eqb-true (length (row ∷ more)) 0 none)) | inr some ↦ some ]
-
 -- rows that a table takes as they are
 each_cast : (t : Table) {X : Type 0} (columns : X → Row) → ((x : X) → cast_row t (Null ∷ columns x) ≡ Null ∷ columns x) → (xs : List X)
     → map (cast_row t) (map (λ x. Null ∷ columns x) xs) ≡ map (λ v. Null ∷ v) (map columns xs)
@@ -93,7 +85,6 @@ record IsPut {X : Type 0} (at tree width : ℕ) (columns : X → Row) : Type 0 w
   table : Table
   placed : slice_get schema_two.tables at ≡ Some (plainly table)
   of_tree : table.tree ≡ tree
-  quiet : (row : Row) (more : List Row) → works schema_two Enforced 0 table.tree [] (row ∷ more) ≡ []
   wide : (x : X) → length (columns x) ≡ width
   cast : (x : X) → cast_row table (Null ∷ columns x) ≡ Null ∷ columns x
 
@@ -115,7 +106,6 @@ puts {X} {at} {tree} {width} {columns} it text n is plain counts x rest len =
       plain = plain;
       placed = it.placed;
       of_tree = it.of_tree;
-      quiet = it.quiet;
       first = columns x;
       rest = map columns rest;
       some = refl;
@@ -128,26 +118,18 @@ written_columns t = columns_with t.0 t.1
 
 -- slot
 
-slot_quiet : (row : Row) (more : List Row) → works schema_two Enforced 0 slot_tree [] (row ∷ more) ≡ []
-unfolding same_name
-slot_quiet row more = rw (some_rows row more) refl
-
 pub slot_put : (project : List ℕ) (part : ℤ) (old new : State) (r : Result ℕ Error) → old.now.schema ≡ schema_two → IsTrue old.in_transaction → ExecutesInside 0 insert_slot (Text project ∷ Int part ∷ []) old new r
     → OnOk r (Steps (Puts slot_tree new.last_rowid (Null ∷ Text project ∷ Int part ∷ [])) old new)
 slot_put project part =
-    put_at insert_slot (Text project ∷ Int part ∷ []) 1 slot (lit Null ∷ lit Null ∷ col 0 0 ∷ col 0 1 ∷ []) 4 insert_slot_is insert_slot_plain refl slot_quiet (Null ∷ Text project ∷ Int part ∷ []) (rw (cast_null, cast_int part) refl)
+    put_at insert_slot (Text project ∷ Int part ∷ []) 1 slot (lit Null ∷ lit Null ∷ col 0 0 ∷ col 0 1 ∷ []) 4 insert_slot_is insert_slot_plain refl (Null ∷ Text project ∷ Int part ∷ []) (rw (cast_null, cast_int part) refl)
 
 -- keyed
-
-keyed_quiet : (row : Row) (more : List Row) → works schema_two Enforced 0 keyed_tree [] (row ∷ more) ≡ []
-unfolding same_name
-keyed_quiet row more = rw (some_rows row more) refl
 
 keyed_cast : (project key reply : List ℕ) → cast_row keyed (Null ∷ Text project ∷ Text key ∷ Text reply ∷ []) ≡ Null ∷ Text project ∷ Text key ∷ Text reply ∷ []
 keyed_cast project key reply = rw (cast_null)
 
 keyed_rows : IsPut 2 keyed_tree 3 (λ (kept : List ℕ × (List ℕ × List ℕ)). Text kept.0 ∷ Text kept.1.0 ∷ Text kept.1.1 ∷ [])
-keyed_rows = record { table = keyed; placed = refl; of_tree = refl; quiet = keyed_quiet; wide = λ kept. refl; cast = λ kept. keyed_cast kept.0 kept.1.0 kept.1.1 }
+keyed_rows = record { table = keyed; placed = refl; of_tree = refl; wide = λ kept. refl; cast = λ kept. keyed_cast kept.0 kept.1.0 kept.1.1 }
 
 pub keyed_put : (project key reply : List ℕ) → Inserts insert_keyed keyed_tree (Text project ∷ Text key ∷ Text reply ∷ []) ((Text project ∷ Text key ∷ Text reply ∷ []) ∷ [])
 keyed_put project key reply = puts keyed_rows insert_keyed 1 insert_keyed_is insert_keyed_plain refl (project, (key, reply)) [] refl
@@ -159,30 +141,22 @@ keyed_listed project key reply =
 
 -- document
 
-document_quiet : (row : Row) (more : List Row) → works schema_two Enforced 0 document_tree [] (row ∷ more) ≡ []
-unfolding same_name
-document_quiet row more = rw (some_rows row more) refl
-
 document_cast : (id : ℤ) (uri : List ℕ) → cast_row document (Null ∷ Int id ∷ document_columns uri) ≡ Null ∷ Int id ∷ document_columns uri
 document_cast id uri = rw (cast_null, cast_int id)
 
 document_rows : {X : Type 0} (value : X → List ℕ) (id : ℤ) → IsPut 3 document_tree 2 (λ (x : X). Int id ∷ document_columns (value x))
-document_rows value id = record { table = document; placed = refl; of_tree = refl; quiet = document_quiet; wide = λ x. refl; cast = λ x. document_cast id (value x) }
+document_rows value id = record { table = document; placed = refl; of_tree = refl; wide = λ x. refl; cast = λ x. document_cast id (value x) }
 
 pub document_put : (id : ℤ) (uri : List ℕ) → Inserts insert_document document_tree (Int id ∷ document_columns uri) ((Int id ∷ document_columns uri) ∷ [])
 document_put id uri = puts (document_rows (λ (x : List ℕ). x) id) insert_document 1 insert_document_is insert_document_plain refl uri [] refl
 
 -- range_row
 
-range_row_quiet : (row : Row) (more : List Row) → works schema_two Enforced 0 range_row_tree [] (row ∷ more) ≡ []
-unfolding same_name
-range_row_quiet row more = rw (some_rows row more) refl
-
 range_row_cast : (id : ℤ) (r : RangeRowValue) → cast_row range_row (Null ∷ Int id ∷ range_columns r) ≡ Null ∷ Int id ∷ range_columns r
 range_row_cast id r = rw (cast_null, cast_int id, cast_int (pos r.line), cast_int (pos (packed_of r.place.span.start)), cast_int (pos (packed_of r.place.span.«end»)), cast_optional (r.parent), cast_optional (r.results Definition), cast_optional (r.results References), cast_optional (r.results Hover))
 
 range_row_rows : {X : Type 0} (value : X → RangeRowValue) (id : ℤ) → IsPut 4 range_row_tree 9 (λ (x : X). Int id ∷ range_columns (value x))
-range_row_rows value id = record { table = range_row; placed = refl; of_tree = refl; quiet = range_row_quiet; wide = λ x. refl; cast = λ x. range_row_cast id (value x) }
+range_row_rows value id = record { table = range_row; placed = refl; of_tree = refl; wide = λ x. refl; cast = λ x. range_row_cast id (value x) }
 
 pub range_row_put : (id : ℤ) (r : RangeRowValue) → Inserts insert_range_row range_row_tree (Int id ∷ range_columns r) ((Int id ∷ range_columns r) ∷ [])
 range_row_put id r = puts (range_row_rows (λ (x : RangeRowValue). x) id) insert_range_row 1 insert_range_row_is insert_range_row_plain refl r [] refl
@@ -194,15 +168,11 @@ range_rows_put value id (x ∷ rows) len = puts (range_row_rows value id) insert
 
 -- item
 
-item_quiet : (row : Row) (more : List Row) → works schema_two Enforced 0 item_tree [] (row ∷ more) ≡ []
-unfolding same_name
-item_quiet row more = rw (some_rows row more) refl
-
 item_cast : (id : ℤ) (i : ItemRowValue) → cast_row item (Null ∷ Int id ∷ item_columns i) ≡ Null ∷ Int id ∷ item_columns i
 item_cast id i = rw (cast_null, cast_int id, cast_int (pos i.result), cast_int (pos (role_index i.role)), cast_int (pos (packed_of i.place.span.start)), cast_int (pos (packed_of i.place.span.«end»)))
 
 item_rows : {X : Type 0} (value : X → ItemRowValue) (id : ℤ) → IsPut 5 item_tree 6 (λ (x : X). Int id ∷ item_columns (value x))
-item_rows value id = record { table = item; placed = refl; of_tree = refl; quiet = item_quiet; wide = λ x. refl; cast = λ x. item_cast id (value x) }
+item_rows value id = record { table = item; placed = refl; of_tree = refl; wide = λ x. refl; cast = λ x. item_cast id (value x) }
 
 pub item_put : (id : ℤ) (i : ItemRowValue) → Inserts insert_item item_tree (Int id ∷ item_columns i) ((Int id ∷ item_columns i) ∷ [])
 item_put id i = puts (item_rows (λ (x : ItemRowValue). x) id) insert_item 1 insert_item_is insert_item_plain refl i [] refl
@@ -214,15 +184,11 @@ items_put value id (x ∷ rows) len = puts (item_rows value id) insert_items 8 i
 
 -- hover
 
-hover_quiet : (row : Row) (more : List Row) → works schema_two Enforced 0 hover_tree [] (row ∷ more) ≡ []
-unfolding same_name
-hover_quiet row more = rw (some_rows row more) refl
-
 hover_cast : (id : ℤ) (h : HoverRowValue) → cast_row hover (Null ∷ Int id ∷ hover_columns h) ≡ Null ∷ Int id ∷ hover_columns h
 hover_cast id h = rw (cast_null, cast_int id, cast_int (pos h.result))
 
 hover_rows : {X : Type 0} (value : X → HoverRowValue) (id : ℤ) → IsPut 6 hover_tree 3 (λ (x : X). Int id ∷ hover_columns (value x))
-hover_rows value id = record { table = hover; placed = refl; of_tree = refl; quiet = hover_quiet; wide = λ x. refl; cast = λ x. hover_cast id (value x) }
+hover_rows value id = record { table = hover; placed = refl; of_tree = refl; wide = λ x. refl; cast = λ x. hover_cast id (value x) }
 
 pub hover_put : (id : ℤ) (h : HoverRowValue) → Inserts insert_hover hover_tree (Int id ∷ hover_columns h) ((Int id ∷ hover_columns h) ∷ [])
 hover_put id h = puts (hover_rows (λ (x : HoverRowValue). x) id) insert_hover 1 insert_hover_is insert_hover_plain refl h [] refl
@@ -234,15 +200,11 @@ hovers_put value id (x ∷ rows) len = puts (hover_rows value id) insert_hovers 
 
 -- mark
 
-mark_quiet : (row : Row) (more : List Row) → works schema_two Enforced 0 mark_tree [] (row ∷ more) ≡ []
-unfolding same_name
-mark_quiet row more = rw (some_rows row more) refl
-
 mark_cast : (id : ℤ) (m : MarkRowValue) → cast_row mark (Null ∷ Int id ∷ mark_columns m) ≡ Null ∷ Int id ∷ mark_columns m
 mark_cast id m = rw (cast_null, cast_int id, cast_int (pos m.range), cast_int (pos (kind_index m.kind)))
 
 mark_rows : {X : Type 0} (value : X → MarkRowValue) (id : ℤ) → IsPut 7 mark_tree 4 (λ (x : X). Int id ∷ mark_columns (value x))
-mark_rows value id = record { table = mark; placed = refl; of_tree = refl; quiet = mark_quiet; wide = λ x. refl; cast = λ x. mark_cast id (value x) }
+mark_rows value id = record { table = mark; placed = refl; of_tree = refl; wide = λ x. refl; cast = λ x. mark_cast id (value x) }
 
 pub mark_put : (id : ℤ) (m : MarkRowValue) → Inserts insert_mark mark_tree (Int id ∷ mark_columns m) ((Int id ∷ mark_columns m) ∷ [])
 mark_put id m = puts (mark_rows (λ (x : MarkRowValue). x) id) insert_mark 1 insert_mark_is insert_mark_plain refl m [] refl
@@ -254,15 +216,11 @@ marks_put value id (x ∷ rows) len = puts (mark_rows value id) insert_marks 8 i
 
 -- bearer
 
-bearer_quiet : (row : Row) (more : List Row) → works schema_two Enforced 0 bearer_tree [] (row ∷ more) ≡ []
-unfolding same_name
-bearer_quiet row more = rw (some_rows row more) refl
-
 bearer_cast : (id : ℤ) (b : BearerRowValue) → cast_row bearer (Null ∷ Int id ∷ bearer_columns b) ≡ Null ∷ Int id ∷ bearer_columns b
 bearer_cast id b = rw (cast_null, cast_int id, cast_int (pos b.line), cast_int (pos (kind_index b.kind)), cast_optional (b.results Definition), cast_optional (b.results References), cast_optional (b.results Hover))
 
 bearer_rows : {X : Type 0} (value : X → BearerRowValue) (id : ℤ) → IsPut 8 bearer_tree 7 (λ (x : X). Int id ∷ bearer_columns (value x))
-bearer_rows value id = record { table = bearer; placed = refl; of_tree = refl; quiet = bearer_quiet; wide = λ x. refl; cast = λ x. bearer_cast id (value x) }
+bearer_rows value id = record { table = bearer; placed = refl; of_tree = refl; wide = λ x. refl; cast = λ x. bearer_cast id (value x) }
 
 pub bearer_put : (id : ℤ) (b : BearerRowValue) → Inserts insert_bearer bearer_tree (Int id ∷ bearer_columns b) ((Int id ∷ bearer_columns b) ∷ [])
 bearer_put id b = puts (bearer_rows (λ (x : BearerRowValue). x) id) insert_bearer 1 insert_bearer_is insert_bearer_plain refl b [] refl
@@ -274,15 +232,11 @@ bearers_put value id (x ∷ rows) len = puts (bearer_rows value id) insert_beare
 
 -- tag
 
-tag_quiet : (row : Row) (more : List Row) → works schema_two Enforced 0 tag_tree [] (row ∷ more) ≡ []
-unfolding same_name
-tag_quiet row more = rw (some_rows row more) refl
-
 tag_cast : (id : ℤ) (t : TagValue × List ℕ) → cast_row tag (Null ∷ Int id ∷ written_columns t) ≡ Null ∷ Int id ∷ written_columns t
 tag_cast id t = rw (cast_null, cast_int id, cast_int (pos t.0.line), cast_optional_text t.0.kind)
 
 tag_rows : {X : Type 0} (value : X → TagValue × List ℕ) (id : ℤ) → IsPut 9 tag_tree 7 (λ (x : X). Int id ∷ written_columns (value x))
-tag_rows value id = record { table = tag; placed = refl; of_tree = refl; quiet = tag_quiet; wide = λ x. refl; cast = λ x. tag_cast id (value x) }
+tag_rows value id = record { table = tag; placed = refl; of_tree = refl; wide = λ x. refl; cast = λ x. tag_cast id (value x) }
 
 pub tag_put : (id : ℤ) (t : TagValue × List ℕ) → Inserts insert_tag tag_tree (Int id ∷ written_columns t) ((Int id ∷ written_columns t) ∷ [])
 tag_put id t = puts (tag_rows (λ (x : TagValue × List ℕ). x) id) insert_tag 1 insert_tag_is insert_tag_plain refl t [] refl
@@ -294,24 +248,16 @@ tags_put value id (x ∷ rows) len = puts (tag_rows value id) insert_tags 8 inse
 
 -- part_profile
 
-part_profile_quiet : (row : Row) (more : List Row) → works schema_two Enforced 0 part_profile_tree [] (row ∷ more) ≡ []
-unfolding same_name
-part_profile_quiet row more = rw (some_rows row more) refl
-
 part_profile_cast : (id : ℤ) (profile : Profile) → cast_row part_profile (Null ∷ Int id ∷ profile_columns profile) ≡ Null ∷ Int id ∷ profile_columns profile
 part_profile_cast id profile = rw (cast_null, cast_int id, cast_int (pos (profile_number profile)))
 
 part_profile_rows : {X : Type 0} (value : X → Profile) (id : ℤ) → IsPut 10 part_profile_tree 2 (λ (x : X). Int id ∷ profile_columns (value x))
-part_profile_rows value id = record { table = part_profile; placed = refl; of_tree = refl; quiet = part_profile_quiet; wide = λ x. refl; cast = λ x. part_profile_cast id (value x) }
+part_profile_rows value id = record { table = part_profile; placed = refl; of_tree = refl; wide = λ x. refl; cast = λ x. part_profile_cast id (value x) }
 
 pub part_profile_put : (id : ℤ) (profile : Profile) → Inserts insert_part_profile part_profile_tree (Int id ∷ profile_columns profile) ((Int id ∷ profile_columns profile) ∷ [])
 part_profile_put id profile = puts (part_profile_rows (λ (x : Profile). x) id) insert_part_profile 1 insert_part_profile_is insert_part_profile_plain refl profile [] refl
 
 -- more
-
-more_quiet : (row : Row) (more : List Row) → works schema_two Enforced 0 more_tree [] (row ∷ more) ≡ []
-unfolding same_name
-more_quiet row more = rw (some_rows row more) refl
 
 -- columns of numbers take the numbers of results as they are
 cast_numbers : (names : List (List ℕ)) (kinds : List RequestKind) (r : ResultsValue)
@@ -326,7 +272,7 @@ more_cast id v =
     ∙ (rw (cast_null, cast_int id, cast_int (pos v.line)) refl)
 
 more_rows : (id : ℤ) → IsPut 11 more_tree (2 + length more_kinds) (λ (v : MoreValue). Int id ∷ more_values v)
-more_rows id = record { table = more; placed = refl; of_tree = refl; quiet = more_quiet; wide = λ v. refl; cast = more_cast id }
+more_rows id = record { table = more; placed = refl; of_tree = refl; wide = λ v. refl; cast = more_cast id }
 
 pub more_put : (id : ℤ) (v : MoreValue) → Inserts insert_more more_tree (Int id ∷ more_values v) ((Int id ∷ more_values v) ∷ [])
 more_put id v = puts (more_rows id) insert_more 1 insert_more_is insert_more_plain refl v [] refl

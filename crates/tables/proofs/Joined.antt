@@ -1,6 +1,6 @@
 -- What the SELECT of the bearers of a key gives: their rows, each with the row of its slot and with
 -- that of its line in `more`, where these are there.
-use Rattle.std.proofs.Common.{◌≡◌, inl, inr, refl, sym, ap, subst, ◌∙◌, pos, negsuc, List, [], ◌∷◌, map, filter, flat_map, Bool, true, false, None, codes, if◌then◌else◌}
+use Rattle.std.proofs.Common.{◌≡◌, refl, sym, ap, subst, ◌∙◌, pos, negsuc, List, [], ◌∷◌, map, filter, flat_map, true, false, None, codes, if◌then◌else◌}
 use Rattle.std.specs.List.{list_all}
 use Rattle.std.specs.List.Sorted.{IsPermutation}
 use Rattle.std.proofs.lemmas.List.Sorted.{IsPermutation-map, IsPermutation-sym}

@@ -1,5 +1,5 @@
 -- The row that a line has in `more`, as it's selected.
-use Rattle.std.proofs.Common.{◌≡◌, ◌⊎◌, inl, inr, ℕ, ℤ, Bool, true, List, [], ◌∷◌, ◌++◌, flat_map, length, map, Option, Some, None, is_some, codes, if◌then◌else◌, false, refl, sym, ap, subst, ◌∙◌, ◌↔◌}
+use Rattle.std.proofs.Common.{◌≡◌, inl, inr, ℕ, ℤ, Bool, true, List, [], ◌∷◌, ◌++◌, flat_map, length, map, Option, Some, None, is_some, codes, false, refl, sym, ap, subst, ◌∙◌, ◌↔◌}
 use Rattle.std.specs.List.{list_any, range_with_len}
 use Rattle.std.proofs.lemmas.Bool.{cases_Bool}
 use Rattle.sqlite.specs.Listing.{understood, reads_listing}

@@ -3,15 +3,12 @@ use Rattle.std.proofs.Common.{◌≡◌, ◌≢◌, ◌/◌, map, inl, inr, refl
 use Rattle.std.specs.List.{AllByRecursion}
 use Rattle.sqlite_schema.specs.declared.schema.Table.{Table}
 use Rattle.sqlite_schema.specs.declared.schema.Index.{Index}
-use Rattle.sqlite_schema.specs.Names.{same_name}
 use Rattle.sqlite_schema.specs.declared.command.Command.TheVariants.{Insert}
 use Rattle.sqlite_schema.specs.declared.command.Source.TheVariants.{Values}
-use Rattle.sqlite_schema.specs.declared.schema.Keys.TheVariants.{Enforced}
 use Rattle.sqlite_value.specs.Order.{Row}
 use Rattle.sqlite_value.specs.declared.value.Value.TheVariants.{Null, Int}
 use Rattle.sqlite_sql.specs.Term.{Term, lit}
 use Rattle.sqlite_rules.specs.Cast.{cast_row}
-use Rattle.sqlite_rules.specs.Action.{works}
 use Rattle.sqlite_rules.specs.Lists.{Has}
 use Rattle.sqlite_rules.proofs.ListLemmas.{all_has, all_from, has_left}
 use Rattle.sqlite_tied.specs.Compute.{everything}
@@ -30,7 +27,7 @@ use Rattle.tables.specs.Steps.Kept.{IsKept, no_rows}
 use Rattle.tables.specs.Databases.{IsListed, IsMade, IsFormatOne, IsUpgraded, WasUpgraded, AreNumbered, IsOrdered, chosen, dump_tests, profile_shown, version_row}
 use Rattle.tables.specs.TableTrees.{format_tree, part_profile_tree, slot_tree}
 use Rattle.tables.proofs.Insert.{inserts}
-use Rattle.tables.proofs.Inserts.{cast_null, cast_int, some_rows}
+use Rattle.tables.proofs.Inserts.{cast_null, cast_int}
 use Rattle.tables.proofs.Batches.{IsSilent, Script, done, next, also, runs, peel, from_batch}
 use Rattle.tables.proofs.Creations.{stage0, stage10, stage15, makes_one, makes_two, format_makes, slot_makes, keyed_makes, document_makes, range_row_makes, item_makes, hover_makes, mark_makes, bearer_makes, tag_makes, range_by_start_makes, bearer_by_key_makes, tag_by_name_makes, part_profile_makes, more_makes}
 use Rattle.tables.proofs.Cuts.{cut0, cut1, cut2, cut3, cut4, cut5, cut6, cut7, cut8, cut9, cut10, cut11, cut12, cut13, cut14, cut15, upgrade_cut0, upgrade_cut1, upgrade_cut2, upgrade_cut3, upgrade_cut4, upgrade_cut5, upgrade_cut6, upgrade_cut7, upgrade_cut8, upgrade_cut9}
@@ -69,17 +66,13 @@ insert_quiet : IsPlain (understood schema_two version_text) × IsSilent (underst
 unfolding understood everything listing_schema
 insert_quiet = ((refl, refl), (refl, refl))
 
-quiet : (row : Row) (more : List Row) → works schema_two Enforced 0 format_tree [] (row ∷ more) ≡ []
-unfolding same_name
-quiet row more = rw (some_rows row more) refl
-
 taken : map (cast_row format) (value_rows [] 2 (length version_terms / 2) version_terms) ≡ (Int (pos 2) ∷ Null ∷ []) ∷ []
 taken = rw (cast_null, cast_int (pos 2))
 
 filled : (old new : State) (count : ℕ) → IsKept schema_two no_rows old.now → ExecutesIn false version_text [] old new (Ok count) → IsMade new.now
 unfolding IsListed
 filled old new count bare h =
-    let it = inserts schema_two version_text [] 0 format version_terms 2 insert_is insert_quiet.0 refl quiet (Int (pos 2) ∷ Null ∷ []) [] taken old new count bare.schema_is h in
+    let it = inserts schema_two version_text [] 0 format version_terms 2 insert_is insert_quiet.0 refl (Int (pos 2) ∷ Null ∷ []) [] taken old new count bare.schema_is h in
     record {
       schema_is = it.schema_is;
       version = it.applies.rows ∙ rw (bare.rows.0);
