@@ -1,13 +1,11 @@
 -- Whether a dump has a document, as it is selected.
-use Rattle.std.proofs.Common.{◌≡◌, inl, ℤ, ℕ, List, [], ◌∷◌, Option, Some, None, is_some, codes, false, refl, ap, subst, ◌∙◌, ◌↔◌, IsTrue}
-use Rattle.sqlite.specs.Listing.{understood, reads_listing}
+use Rattle.std.proofs.Common.{◌≡◌, inl, ℤ, ℕ, List, [], ◌∷◌, Option, Some, None, is_some, codes, refl, ap, subst, ◌∙◌, ◌↔◌, IsTrue}
+use Rattle.sqlite.specs.Listing.{understood}
 use Rattle.sqlite.specs.State.{State as Store, Shown}
-use Rattle.sqlite.proofs.Callers.{IsPlain, command_of}
 use Rattle.sqlite_tied.specs.Compute.{everything}
 use Rattle.sqlite_value.specs.Order.{Row}
 use Rattle.sqlite_value.specs.declared.value.Value.TheVariants.{Int, Text}
 use Rattle.sqlite_sql.specs.Term.{col}
-use Rattle.sqlite_schema.specs.declared.command.Command.TheVariants.{Select}
 use Rattle.sqlite_trees.specs.Tree.{Trees}
 use Rattle.sqlite_rules.specs.Lists.{Has}
 use Rattle.dump.specs.Places.{HasDocument}
@@ -20,25 +18,16 @@ use Rattle.tables.specs.Contents.{owned, slot_row}
 use Rattle.machine.specs.State.{State}
 use Rattle.tables.specs.Stands.{StandsFor}
 use Rattle.tables.specs.Steps.SelectionTexts.{select_document}
-use Rattle.tables.specs.Steps.Selected.{IsFirstRead, IsQuery, ShowsOne, equals}
+use Rattle.tables.specs.Steps.Selected.{IsFirstRead, ShowsOne, equals}
 use Rattle.tables.specs.Steps.DumpEntries.{Entries, entry_values, ShowsOneOf}
 use Rattle.tables.specs.TableTrees.{slot_tree}
 use Rattle.tables.proofs.DumpEntries.{typed, shows_one_of, listed_are}
-use Rattle.tables.proofs.Select.{one_table}
+use Rattle.tables.proofs.Select.{IsSelect, one_table}
 use Rattle.tables.proofs.Selecting.{IsSelection, shows_one}
-use Rattle.tables.proofs.Silent.{silent}
 
-select_document_is : command_of (understood schema_two select_document) ≡ Select (record { lets = []; body = one_table 5 (equals ((1, 0) ∷ (2, 1) ∷ [])) (col 1 1 ∷ []) }) (codes "slot" ∷ [])
+pub select_document_is : IsSelect schema_two select_document (one_table 5 (equals ((1, 0) ∷ (2, 1) ∷ [])) (col 1 1 ∷ [])) (codes "slot" ∷ [])
 unfolding understood everything
-select_document_is = refl
-
-pub select_document_plain : IsPlain (understood schema_two select_document) × (reads_listing schema_two select_document ≡ false)
-unfolding understood everything
-select_document_plain = ((refl, refl), refl)
-
-pub select_document_reads : IsQuery select_document
-unfolding understood everything
-select_document_reads = record { plain = select_document_plain.0; silent = silent select_document (λ schema base. refl) }
+select_document_is = record { is = refl; plain = (refl, refl); unlisted = refl; silent = λ schema base. refl }
 
 abbrev IsDocument : DumpValue → List ℕ → Type 0
 IsDocument dump uri = HasDocument dump.elements uri
@@ -66,7 +55,6 @@ module _ (uri : List ℕ) where
       terms = col 1 1 ∷ [];
       names = codes "slot" ∷ [];
       is = select_document_is;
-      plain = select_document_plain;
       own = λ db. refl;
       shows = λ at e. refl;
       alike = λ at e. (tt, (tt, tt));

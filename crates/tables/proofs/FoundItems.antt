@@ -1,19 +1,17 @@
 -- The items of a result, as they are selected.
-use Rattle.std.proofs.Common.{◌≡◌, inl, inr, ℕ, ℤ, Bool, true, ◌&&◌, List, [], ◌∷◌, map, Some, None, codes, false, refl, sym, ap, subst, ◌∙◌, ◌↔◌, Contains, arith}
+use Rattle.std.proofs.Common.{◌≡◌, inl, inr, ℕ, ℤ, Bool, true, ◌&&◌, List, [], ◌∷◌, map, Some, None, codes, refl, sym, ap, subst, ◌∙◌, ◌↔◌, Contains, arith}
 use Rattle.std.specs.List.{AllByRecursion}
 use Rattle.std.specs.Cmp.{IsTotalOrder, on_total}
 use Rattle.std.specs.Cmp.Lexicographic.{pointwise}
 use Rattle.std.specs.Prelude.{nat_eq}
 use Rattle.std.specs.Rc.{rc_str_bytes}
 use Rattle.std.specs.Ordering.{eq_by_cmp}
-use Rattle.sqlite.specs.Listing.{understood, reads_listing}
+use Rattle.sqlite.specs.Listing.{understood}
 use Rattle.sqlite.specs.State.{State as Store, Shown}
-use Rattle.sqlite.proofs.Callers.{IsPlain, command_of}
 use Rattle.sqlite_tied.specs.Compute.{everything}
 use Rattle.sqlite_value.specs.Order.{Row}
 use Rattle.sqlite_value.specs.declared.value.Value.TheVariants.{Int, Text}
 use Rattle.sqlite_sql.specs.Term.{col}
-use Rattle.sqlite_schema.specs.declared.command.Command.TheVariants.{Select}
 use Rattle.sqlite_trees.specs.Tree.{Trees}
 use Rattle.sqlite_rules.specs.Lists.{Has}
 use Rattle.positions.specs.Position.{PositionValue, IsPosition, packed_of}
@@ -37,26 +35,17 @@ use Rattle.tables.specs.Stands.{StandsFor}
 use Rattle.machine.specs.Selections.{HasItem, FindsItems, item_found}
 use Rattle.machine.specs.declared.selections.FoundItem.{FoundItem}
 use Rattle.tables.specs.Steps.SelectionTexts.{select_items}
-use Rattle.tables.specs.Steps.Selected.{AreRead, IsQuery, equals}
+use Rattle.tables.specs.Steps.Selected.{AreRead, equals}
 use Rattle.tables.specs.Steps.DumpEntries.{Entries, entry_values, SelectsOf}
 use Rattle.tables.specs.TableTrees.{slot_tree}
 use Rattle.tables.proofs.DumpEntries.{rows_of, typed, selects_of, listed_are, dump_slot, are_values, empty_listing}
 use Rattle.tables.proofs.Keeping.{same_some, none_is_some}
-use Rattle.tables.proofs.Select.{one_table}
+use Rattle.tables.proofs.Select.{IsSelect, one_table}
 use Rattle.tables.proofs.Selecting.{IsSelection, selects_typed}
-use Rattle.tables.proofs.Silent.{silent}
 
-select_items_is : command_of (understood schema_two select_items) ≡ Select (record { lets = []; body = one_table 9 (equals ((1, 0) ∷ (2, 1) ∷ (3, 2) ∷ [])) (col 1 4 ∷ col 1 5 ∷ col 1 6 ∷ []) }) (codes "uri" ∷ codes "first" ∷ codes "last" ∷ [])
+pub select_items_is : IsSelect schema_two select_items (one_table 9 (equals ((1, 0) ∷ (2, 1) ∷ (3, 2) ∷ [])) (col 1 4 ∷ col 1 5 ∷ col 1 6 ∷ [])) (codes "uri" ∷ codes "first" ∷ codes "last" ∷ [])
 unfolding understood everything
-select_items_is = refl
-
-pub select_items_plain : IsPlain (understood schema_two select_items) × (reads_listing schema_two select_items ≡ false)
-unfolding understood everything
-select_items_plain = ((refl, refl), refl)
-
-pub select_items_reads : IsQuery select_items
-unfolding understood everything
-select_items_reads = record { plain = select_items_plain.0; silent = silent select_items (λ schema base. refl) }
+select_items_is = record { is = refl; plain = (refl, refl); unlisted = refl; silent = λ schema base. refl }
 
 -- ---- the order
 
@@ -137,7 +126,6 @@ module _ (result : ℕ) (role : Role) where
       terms = col 1 4 ∷ col 1 5 ∷ col 1 6 ∷ [];
       names = codes "uri" ∷ codes "first" ∷ codes "last" ∷ [];
       is = select_items_is;
-      plain = select_items_plain;
       own = λ db. refl;
       shows = λ at e. refl;
       alike = λ at e. (tt, (tt, (tt, tt)));

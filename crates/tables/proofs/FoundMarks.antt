@@ -1,18 +1,16 @@
 -- The marks of a range, as they are selected.
-use Rattle.std.proofs.Common.{◌≡◌, inl, inr, ℕ, ℤ, Bool, true, ◌&&◌, List, [], ◌∷◌, map, Some, None, codes, false, refl, sym, ap, subst, ◌∙◌, string_bytes, ◌↔◌, Contains}
+use Rattle.std.proofs.Common.{◌≡◌, inl, inr, ℕ, ℤ, Bool, true, ◌&&◌, List, [], ◌∷◌, map, Some, None, codes, refl, sym, ap, subst, ◌∙◌, string_bytes, ◌↔◌, Contains}
 use Rattle.std.specs.List.{AllByRecursion}
 use Rattle.std.specs.Cmp.{IsTotalOrder, then_total, on_total, nat_cmp_total}
 use Rattle.std.specs.Cmp.Lexicographic.{on_texts}
 use Rattle.std.specs.String.{string_eq}
 use Rattle.std.specs.Ordering.{eq_by_cmp}
-use Rattle.sqlite.specs.Listing.{understood, reads_listing}
+use Rattle.sqlite.specs.Listing.{understood}
 use Rattle.sqlite.specs.State.{State as Store, Shown}
-use Rattle.sqlite.proofs.Callers.{IsPlain, command_of}
 use Rattle.sqlite_tied.specs.Compute.{everything}
 use Rattle.sqlite_value.specs.Order.{Row}
 use Rattle.sqlite_value.specs.declared.value.Value.TheVariants.{Int, Text}
 use Rattle.sqlite_sql.specs.Term.{col}
-use Rattle.sqlite_schema.specs.declared.command.Command.TheVariants.{Select}
 use Rattle.sqlite_trees.specs.Tree.{Trees}
 use Rattle.sqlite_rules.specs.Lists.{Has}
 use Rattle.lsif.specs.contracts.element.MonikerKindPartialEq.TheImpl as kind_eq
@@ -32,26 +30,17 @@ use Rattle.tables.specs.Stands.{StandsFor}
 use Rattle.machine.specs.Selections.{MarkText, HasMark, FindsMarks, mark_text_cmp, mark_found}
 use Rattle.machine.specs.declared.selections.FoundMark.{FoundMark}
 use Rattle.tables.specs.Steps.SelectionTexts.{select_marks}
-use Rattle.tables.specs.Steps.Selected.{AreRead, IsQuery, equals}
+use Rattle.tables.specs.Steps.Selected.{AreRead, equals}
 use Rattle.tables.specs.Steps.DumpEntries.{Entries, entry_values, SelectsOf}
 use Rattle.tables.specs.TableTrees.{slot_tree}
 use Rattle.tables.proofs.DumpEntries.{typed, selects_of, listed_are, dump_slot, are_values, empty_listing}
 use Rattle.tables.proofs.Keeping.{same_some, none_is_some}
-use Rattle.tables.proofs.Select.{one_table}
+use Rattle.tables.proofs.Select.{IsSelect, one_table}
 use Rattle.tables.proofs.Selecting.{IsSelection, selects_typed}
-use Rattle.tables.proofs.Silent.{silent}
 
-select_marks_is : command_of (understood schema_two select_marks) ≡ Select (record { lets = []; body = one_table 13 (equals ((1, 0) ∷ (2, 1) ∷ [])) (col 1 3 ∷ col 1 4 ∷ []) }) (codes "kind" ∷ codes "keytext" ∷ [])
+pub select_marks_is : IsSelect schema_two select_marks (one_table 13 (equals ((1, 0) ∷ (2, 1) ∷ [])) (col 1 3 ∷ col 1 4 ∷ [])) (codes "kind" ∷ codes "keytext" ∷ [])
 unfolding understood everything
-select_marks_is = refl
-
-pub select_marks_plain : IsPlain (understood schema_two select_marks) × (reads_listing schema_two select_marks ≡ false)
-unfolding understood everything
-select_marks_plain = ((refl, refl), refl)
-
-pub select_marks_reads : IsQuery select_marks
-unfolding understood everything
-select_marks_reads = record { plain = select_marks_plain.0; silent = silent select_marks (λ schema base. refl) }
+select_marks_is = record { is = refl; plain = (refl, refl); unlisted = refl; silent = λ schema base. refl }
 
 -- ---- the order
 
@@ -112,7 +101,6 @@ module _ (line : ℕ) where
       terms = col 1 3 ∷ col 1 4 ∷ [];
       names = codes "kind" ∷ codes "keytext" ∷ [];
       is = select_marks_is;
-      plain = select_marks_plain;
       own = λ db. refl;
       shows = λ at e. refl;
       alike = λ at e. (tt, (tt, tt));

@@ -1,44 +1,33 @@
 -- The slots of parts, as they are selected.
-use Rattle.std.proofs.Common.{◌≡◌, inl, inr, ℕ, ℤ, List, [], ◌∷◌, Option, Some, None, codes, false, refl, sym, ap, subst, ◌∙◌, string_bytes}
+use Rattle.std.proofs.Common.{◌≡◌, inl, inr, ℕ, ℤ, List, [], ◌∷◌, Option, Some, None, codes, refl, sym, ap, subst, ◌∙◌, string_bytes}
 use Rattle.std.specs.declared.string.String.{String}
 use Rattle.std.specs.declared.alloc.Global.{Global}
-use Rattle.sqlite.specs.Listing.{understood, reads_listing}
+use Rattle.sqlite.specs.Listing.{understood}
 use Rattle.sqlite.specs.State.{State, Shown}
-use Rattle.sqlite.proofs.Callers.{IsPlain, command_of}
 use Rattle.sqlite_tied.specs.Compute.{everything}
 use Rattle.sqlite_value.specs.Order.{Row}
 use Rattle.sqlite_value.specs.declared.value.Value.TheVariants.{Null, Int, Text}
 use Rattle.sqlite_value.proofs.OrderLemmas.{value_cmp-Int}
 use Rattle.sqlite_sql.specs.Term.{col}
-use Rattle.sqlite_schema.specs.declared.command.Command.TheVariants.{Select}
 use Rattle.sqlite_trees.specs.Tree.{Trees}
 use Rattle.sqlite_rules.specs.Lists.{Has}
 use Rattle.sqlite_rules.proofs.PlaceLemmas.{tied_same}
 use Rattle.tables.specs.Schema.{schema_two, slot}
 use Rattle.tables.specs.Contents.{Contents, Replies, Keeps, slot_row}
 use Rattle.tables.specs.Steps.SelectionTexts.{select_slot, select_project}
-use Rattle.tables.specs.Steps.Selected.{AreTyped, IsFirstRead, IsQuery, ShowsOne, equals}
+use Rattle.tables.specs.Steps.Selected.{AreTyped, IsFirstRead, ShowsOne, equals}
 use Rattle.tables.specs.Steps.Slots.{IsSlotOf}
 use Rattle.tables.specs.Parts.{part_number}
 use Rattle.tables.specs.declared.slots.Part.{Part}
 use Rattle.tables.specs.TableTrees.{slot_tree}
 use Rattle.tables.proofs.Cascade.{equal_is}
 use Rattle.tables.proofs.Keeping.{none_is_some, same_some, slot_is, number_is, same_int_itself}
-use Rattle.tables.proofs.Select.{one_table}
+use Rattle.tables.proofs.Select.{IsSelect, one_table}
 use Rattle.tables.proofs.Selecting.{IsSelection, shows_one}
-use Rattle.tables.proofs.Silent.{silent}
 
-pub select_slot_is : command_of (understood schema_two select_slot) ≡ Select (record { lets = []; body = one_table 1 (equals ((2, 0) ∷ (3, 1) ∷ [])) (col 1 0 ∷ []) }) (codes "id" ∷ [])
+pub select_slot_is : IsSelect schema_two select_slot (one_table 1 (equals ((2, 0) ∷ (3, 1) ∷ [])) (col 1 0 ∷ [])) (codes "id" ∷ [])
 unfolding understood everything
-select_slot_is = refl
-
-pub select_slot_plain : IsPlain (understood schema_two select_slot) × (reads_listing schema_two select_slot ≡ false)
-unfolding understood everything
-select_slot_plain = ((refl, refl), refl)
-
-pub select_slot_reads : IsQuery select_slot
-unfolding understood everything
-select_slot_reads = record { plain = select_slot_plain.0; silent = silent select_slot (λ schema base. refl) }
+select_slot_is = record { is = refl; plain = (refl, refl); unlisted = refl; silent = λ schema base. refl }
 
 pub record SlotEntry : Type 0 where
   pub project : List ℕ
@@ -79,7 +68,6 @@ module _ (project : List ℕ) (part : Part) where
     terms = col 1 0 ∷ [];
     names = codes "id" ∷ [];
     is = select_slot_is;
-    plain = select_slot_plain;
     own = λ db. refl;
     shows = λ id e. refl;
     alike = λ id e. (tt, (tt, tt));
@@ -109,17 +97,9 @@ module _ (project : List ℕ) (part : Part) where
 
 -- ---- the project of a slot
 
-select_project_is : command_of (understood schema_two select_project) ≡ Select (record { lets = []; body = one_table 1 (equals ((0, 0) ∷ [])) (col 1 2 ∷ []) }) (codes "project" ∷ [])
+pub select_project_is : IsSelect schema_two select_project (one_table 1 (equals ((0, 0) ∷ [])) (col 1 2 ∷ [])) (codes "project" ∷ [])
 unfolding understood everything
-select_project_is = refl
-
-pub select_project_plain : IsPlain (understood schema_two select_project) × (reads_listing schema_two select_project ≡ false)
-unfolding understood everything
-select_project_plain = ((refl, refl), refl)
-
-pub select_project_reads : IsQuery select_project
-unfolding understood everything
-select_project_reads = record { plain = select_project_plain.0; silent = silent select_project (λ schema base. refl) }
+select_project_is = record { is = refl; plain = (refl, refl); unlisted = refl; silent = λ schema base. refl }
 
 abbrev project_columns : String Global → Row
 project_columns s = Text (string_bytes s) ∷ []
@@ -137,7 +117,6 @@ module _ (id : ℤ) where
     terms = col 1 2 ∷ [];
     names = codes "project" ∷ [];
     is = select_project_is;
-    plain = select_project_plain;
     own = λ db. refl;
     shows = λ at e. refl;
     alike = λ at e. (tt, tt);

@@ -11,10 +11,7 @@ use Rattle.sqlite_schema.specs.declared.schema.Table.{Table}
 use Rattle.sqlite.specs.declared.error.Error.{Error}
 use Rattle.sqlite.specs.State.{State, ExecutesInside}
 use Rattle.sqlite.specs.Effect.{value_rows}
-use Rattle.sqlite.specs.Given.{IsPlain}
-use Rattle.sqlite.specs.Listing.{understood}
 use Rattle.sqlite.specs.Values.{or_null, bound_value}
-use Rattle.sqlite.proofs.Callers.{command_of}
 use Rattle.sqlite_schema.specs.declared.command.Source.TheVariants.{Values}
 use Rattle.sqlite_schema.specs.declared.command.Command.TheVariants.{Insert}
 use Rattle.positions.specs.Position.{packed_of}
@@ -35,7 +32,7 @@ use Rattle.tables.proofs.ValueRows.{rows_of_values}
 use Rattle.tables.specs.TableTrees.{slot_tree, keyed_tree, document_tree, range_row_tree, item_tree, hover_tree, mark_tree, bearer_tree, tag_tree, part_profile_tree, more_tree}
 use Rattle.tables.specs.Databases.{IsListed}
 use Rattle.tables.proofs.Puts.{put_at, listed_ok}
-use Rattle.tables.proofs.Commands.{insert_slot_is, insert_slot_plain, insert_keyed_is, insert_keyed_plain, insert_document_is, insert_document_plain, insert_range_row_is, insert_range_row_plain, insert_item_is, insert_item_plain, insert_hover_is, insert_hover_plain, insert_mark_is, insert_mark_plain, insert_bearer_is, insert_bearer_plain, insert_tag_is, insert_tag_plain, insert_part_profile_is, insert_part_profile_plain, insert_more_is, insert_more_plain, row_terms, insert_range_rows_is, insert_range_rows_plain, insert_items_is, insert_items_plain, insert_hovers_is, insert_hovers_plain, insert_marks_is, insert_marks_plain, insert_bearers_is, insert_bearers_plain, insert_tags_is, insert_tags_plain}
+use Rattle.tables.proofs.Commands.{IsCommand, insert_slot_is, insert_keyed_is, insert_document_is, insert_range_row_is, insert_item_is, insert_hover_is, insert_mark_is, insert_bearer_is, insert_tag_is, insert_part_profile_is, insert_more_is, row_terms, insert_range_rows_is, insert_items_is, insert_hovers_is, insert_marks_is, insert_bearers_is, insert_tags_is}
 
 either : (b : Bool) (x : Value) → cond b x x ≡ x
 either true x = refl
@@ -90,10 +87,9 @@ record IsPut {X : Type 0} (at tree width : ℕ) (columns : X → Row) : Type 0 w
 
 -- a statement with values for so many rows puts them
 puts : {X : Type 0} {at tree width : ℕ} {columns : X → Row} → IsPut at tree width columns → (text : List ℕ) (n : ℕ)
-    → command_of (understood schema_two text) ≡ Insert at (Values (row_terms 0 width n) (suc width)) → IsPlain (understood schema_two text)
-    → length (row_terms 0 width n) / suc width ≡ n → (x : X) (rest : List X) → length (x ∷ rest) ≡ n
+    → IsCommand text (Insert at (Values (row_terms 0 width n) (suc width))) → length (row_terms 0 width n) / suc width ≡ n → (x : X) (rest : List X) → length (x ∷ rest) ≡ n
     → Inserts text tree (flat_map columns (x ∷ rest)) (map columns (x ∷ rest))
-puts {X} {at} {tree} {width} {columns} it text n is plain counts x rest len =
+puts {X} {at} {tree} {width} {columns} it text n command counts x rest len =
     let rows : List X = x ∷ rest in
     let values : Row = flat_map columns rows in
     let each = subst (λ k. value_rows values (suc width) k (row_terms 0 width k) ≡ map (λ y. Null ∷ columns y) rows) len (rows_of_values columns width it.wide rows) in
@@ -102,8 +98,8 @@ puts {X} {at} {tree} {width} {columns} it text n is plain counts x rest len =
       table = it.table;
       terms = row_terms 0 width n;
       width = suc width;
-      is = is;
-      plain = plain;
+      is = command.is;
+      plain = command.plain;
       placed = it.placed;
       of_tree = it.of_tree;
       first = columns x;
@@ -121,7 +117,7 @@ written_columns t = columns_with t.0 t.1
 pub slot_put : (project : List ℕ) (part : ℤ) (old new : State) (r : Result ℕ Error) → old.now.schema ≡ schema_two → IsTrue old.in_transaction → ExecutesInside 0 insert_slot (Text project ∷ Int part ∷ []) old new r
     → OnOk r (Steps (Puts slot_tree new.last_rowid (Null ∷ Text project ∷ Int part ∷ [])) old new)
 slot_put project part =
-    put_at insert_slot (Text project ∷ Int part ∷ []) 1 slot (lit Null ∷ lit Null ∷ col 0 0 ∷ col 0 1 ∷ []) 4 insert_slot_is insert_slot_plain refl (Null ∷ Text project ∷ Int part ∷ []) (rw (cast_null, cast_int part) refl)
+    put_at insert_slot (Text project ∷ Int part ∷ []) 1 slot (lit Null ∷ lit Null ∷ col 0 0 ∷ col 0 1 ∷ []) 4 insert_slot_is.is insert_slot_is.plain refl (Null ∷ Text project ∷ Int part ∷ []) (rw (cast_null, cast_int part) refl)
 
 -- keyed
 
@@ -132,7 +128,7 @@ keyed_rows : IsPut 2 keyed_tree 3 (λ (kept : List ℕ × (List ℕ × List ℕ)
 keyed_rows = record { table = keyed; placed = refl; of_tree = refl; wide = λ kept. refl; cast = λ kept. keyed_cast kept.0 kept.1.0 kept.1.1 }
 
 pub keyed_put : (project key reply : List ℕ) → Inserts insert_keyed keyed_tree (Text project ∷ Text key ∷ Text reply ∷ []) ((Text project ∷ Text key ∷ Text reply ∷ []) ∷ [])
-keyed_put project key reply = puts keyed_rows insert_keyed 1 insert_keyed_is insert_keyed_plain refl (project, (key, reply)) [] refl
+keyed_put project key reply = puts keyed_rows insert_keyed 1 insert_keyed_is refl (project, (key, reply)) [] refl
 
 pub keyed_listed : (project key reply : List ℕ) (old new : State) (done : Result ℕ Error) → old.now.schema ≡ schema_two → ExecutesInside 0 insert_keyed (Text project ∷ Text key ∷ Text reply ∷ []) old new done
     → OnOk done (IsListed schema_two new.now.trees)
@@ -148,7 +144,7 @@ document_rows : {X : Type 0} (value : X → List ℕ) (id : ℤ) → IsPut 3 doc
 document_rows value id = record { table = document; placed = refl; of_tree = refl; wide = λ x. refl; cast = λ x. document_cast id (value x) }
 
 pub document_put : (id : ℤ) (uri : List ℕ) → Inserts insert_document document_tree (Int id ∷ document_columns uri) ((Int id ∷ document_columns uri) ∷ [])
-document_put id uri = puts (document_rows (λ (x : List ℕ). x) id) insert_document 1 insert_document_is insert_document_plain refl uri [] refl
+document_put id uri = puts (document_rows (λ (x : List ℕ). x) id) insert_document 1 insert_document_is refl uri [] refl
 
 -- range_row
 
@@ -159,12 +155,12 @@ range_row_rows : {X : Type 0} (value : X → RangeRowValue) (id : ℤ) → IsPut
 range_row_rows value id = record { table = range_row; placed = refl; of_tree = refl; wide = λ x. refl; cast = λ x. range_row_cast id (value x) }
 
 pub range_row_put : (id : ℤ) (r : RangeRowValue) → Inserts insert_range_row range_row_tree (Int id ∷ range_columns r) ((Int id ∷ range_columns r) ∷ [])
-range_row_put id r = puts (range_row_rows (λ (x : RangeRowValue). x) id) insert_range_row 1 insert_range_row_is insert_range_row_plain refl r [] refl
+range_row_put id r = puts (range_row_rows (λ (x : RangeRowValue). x) id) insert_range_row 1 insert_range_row_is refl r [] refl
 
 pub range_rows_put : {X : Type 0} (value : X → RangeRowValue) (id : ℤ) (rows : List X) → length rows ≡ 8
     → Inserts insert_range_rows range_row_tree (flat_map (λ row. Int id ∷ range_columns (value row)) rows) (map (λ row. Int id ∷ range_columns (value row)) rows)
 range_rows_put value id [] len = absurd (omega (arith, len))
-range_rows_put value id (x ∷ rows) len = puts (range_row_rows value id) insert_range_rows 8 insert_range_rows_is insert_range_rows_plain refl x rows len
+range_rows_put value id (x ∷ rows) len = puts (range_row_rows value id) insert_range_rows 8 insert_range_rows_is refl x rows len
 
 -- item
 
@@ -175,12 +171,12 @@ item_rows : {X : Type 0} (value : X → ItemRowValue) (id : ℤ) → IsPut 5 ite
 item_rows value id = record { table = item; placed = refl; of_tree = refl; wide = λ x. refl; cast = λ x. item_cast id (value x) }
 
 pub item_put : (id : ℤ) (i : ItemRowValue) → Inserts insert_item item_tree (Int id ∷ item_columns i) ((Int id ∷ item_columns i) ∷ [])
-item_put id i = puts (item_rows (λ (x : ItemRowValue). x) id) insert_item 1 insert_item_is insert_item_plain refl i [] refl
+item_put id i = puts (item_rows (λ (x : ItemRowValue). x) id) insert_item 1 insert_item_is refl i [] refl
 
 pub items_put : {X : Type 0} (value : X → ItemRowValue) (id : ℤ) (rows : List X) → length rows ≡ 8
     → Inserts insert_items item_tree (flat_map (λ row. Int id ∷ item_columns (value row)) rows) (map (λ row. Int id ∷ item_columns (value row)) rows)
 items_put value id [] len = absurd (omega (arith, len))
-items_put value id (x ∷ rows) len = puts (item_rows value id) insert_items 8 insert_items_is insert_items_plain refl x rows len
+items_put value id (x ∷ rows) len = puts (item_rows value id) insert_items 8 insert_items_is refl x rows len
 
 -- hover
 
@@ -191,12 +187,12 @@ hover_rows : {X : Type 0} (value : X → HoverRowValue) (id : ℤ) → IsPut 6 h
 hover_rows value id = record { table = hover; placed = refl; of_tree = refl; wide = λ x. refl; cast = λ x. hover_cast id (value x) }
 
 pub hover_put : (id : ℤ) (h : HoverRowValue) → Inserts insert_hover hover_tree (Int id ∷ hover_columns h) ((Int id ∷ hover_columns h) ∷ [])
-hover_put id h = puts (hover_rows (λ (x : HoverRowValue). x) id) insert_hover 1 insert_hover_is insert_hover_plain refl h [] refl
+hover_put id h = puts (hover_rows (λ (x : HoverRowValue). x) id) insert_hover 1 insert_hover_is refl h [] refl
 
 pub hovers_put : {X : Type 0} (value : X → HoverRowValue) (id : ℤ) (rows : List X) → length rows ≡ 8
     → Inserts insert_hovers hover_tree (flat_map (λ row. Int id ∷ hover_columns (value row)) rows) (map (λ row. Int id ∷ hover_columns (value row)) rows)
 hovers_put value id [] len = absurd (omega (arith, len))
-hovers_put value id (x ∷ rows) len = puts (hover_rows value id) insert_hovers 8 insert_hovers_is insert_hovers_plain refl x rows len
+hovers_put value id (x ∷ rows) len = puts (hover_rows value id) insert_hovers 8 insert_hovers_is refl x rows len
 
 -- mark
 
@@ -207,12 +203,12 @@ mark_rows : {X : Type 0} (value : X → MarkRowValue) (id : ℤ) → IsPut 7 mar
 mark_rows value id = record { table = mark; placed = refl; of_tree = refl; wide = λ x. refl; cast = λ x. mark_cast id (value x) }
 
 pub mark_put : (id : ℤ) (m : MarkRowValue) → Inserts insert_mark mark_tree (Int id ∷ mark_columns m) ((Int id ∷ mark_columns m) ∷ [])
-mark_put id m = puts (mark_rows (λ (x : MarkRowValue). x) id) insert_mark 1 insert_mark_is insert_mark_plain refl m [] refl
+mark_put id m = puts (mark_rows (λ (x : MarkRowValue). x) id) insert_mark 1 insert_mark_is refl m [] refl
 
 pub marks_put : {X : Type 0} (value : X → MarkRowValue) (id : ℤ) (rows : List X) → length rows ≡ 8
     → Inserts insert_marks mark_tree (flat_map (λ row. Int id ∷ mark_columns (value row)) rows) (map (λ row. Int id ∷ mark_columns (value row)) rows)
 marks_put value id [] len = absurd (omega (arith, len))
-marks_put value id (x ∷ rows) len = puts (mark_rows value id) insert_marks 8 insert_marks_is insert_marks_plain refl x rows len
+marks_put value id (x ∷ rows) len = puts (mark_rows value id) insert_marks 8 insert_marks_is refl x rows len
 
 -- bearer
 
@@ -223,12 +219,12 @@ bearer_rows : {X : Type 0} (value : X → BearerRowValue) (id : ℤ) → IsPut 8
 bearer_rows value id = record { table = bearer; placed = refl; of_tree = refl; wide = λ x. refl; cast = λ x. bearer_cast id (value x) }
 
 pub bearer_put : (id : ℤ) (b : BearerRowValue) → Inserts insert_bearer bearer_tree (Int id ∷ bearer_columns b) ((Int id ∷ bearer_columns b) ∷ [])
-bearer_put id b = puts (bearer_rows (λ (x : BearerRowValue). x) id) insert_bearer 1 insert_bearer_is insert_bearer_plain refl b [] refl
+bearer_put id b = puts (bearer_rows (λ (x : BearerRowValue). x) id) insert_bearer 1 insert_bearer_is refl b [] refl
 
 pub bearers_put : {X : Type 0} (value : X → BearerRowValue) (id : ℤ) (rows : List X) → length rows ≡ 8
     → Inserts insert_bearers bearer_tree (flat_map (λ row. Int id ∷ bearer_columns (value row)) rows) (map (λ row. Int id ∷ bearer_columns (value row)) rows)
 bearers_put value id [] len = absurd (omega (arith, len))
-bearers_put value id (x ∷ rows) len = puts (bearer_rows value id) insert_bearers 8 insert_bearers_is insert_bearers_plain refl x rows len
+bearers_put value id (x ∷ rows) len = puts (bearer_rows value id) insert_bearers 8 insert_bearers_is refl x rows len
 
 -- tag
 
@@ -239,12 +235,12 @@ tag_rows : {X : Type 0} (value : X → TagValue × List ℕ) (id : ℤ) → IsPu
 tag_rows value id = record { table = tag; placed = refl; of_tree = refl; wide = λ x. refl; cast = λ x. tag_cast id (value x) }
 
 pub tag_put : (id : ℤ) (t : TagValue × List ℕ) → Inserts insert_tag tag_tree (Int id ∷ written_columns t) ((Int id ∷ written_columns t) ∷ [])
-tag_put id t = puts (tag_rows (λ (x : TagValue × List ℕ). x) id) insert_tag 1 insert_tag_is insert_tag_plain refl t [] refl
+tag_put id t = puts (tag_rows (λ (x : TagValue × List ℕ). x) id) insert_tag 1 insert_tag_is refl t [] refl
 
 pub tags_put : {X : Type 0} (value : X → TagValue × List ℕ) (id : ℤ) (rows : List X) → length rows ≡ 8
     → Inserts insert_tags tag_tree (flat_map (λ row. Int id ∷ written_columns (value row)) rows) (map (λ row. Int id ∷ written_columns (value row)) rows)
 tags_put value id [] len = absurd (omega (arith, len))
-tags_put value id (x ∷ rows) len = puts (tag_rows value id) insert_tags 8 insert_tags_is insert_tags_plain refl x rows len
+tags_put value id (x ∷ rows) len = puts (tag_rows value id) insert_tags 8 insert_tags_is refl x rows len
 
 -- part_profile
 
@@ -255,7 +251,7 @@ part_profile_rows : {X : Type 0} (value : X → Profile) (id : ℤ) → IsPut 10
 part_profile_rows value id = record { table = part_profile; placed = refl; of_tree = refl; wide = λ x. refl; cast = λ x. part_profile_cast id (value x) }
 
 pub part_profile_put : (id : ℤ) (profile : Profile) → Inserts insert_part_profile part_profile_tree (Int id ∷ profile_columns profile) ((Int id ∷ profile_columns profile) ∷ [])
-part_profile_put id profile = puts (part_profile_rows (λ (x : Profile). x) id) insert_part_profile 1 insert_part_profile_is insert_part_profile_plain refl profile [] refl
+part_profile_put id profile = puts (part_profile_rows (λ (x : Profile). x) id) insert_part_profile 1 insert_part_profile_is refl profile [] refl
 
 -- more
 
@@ -275,4 +271,4 @@ more_rows : (id : ℤ) → IsPut 11 more_tree (2 + length more_kinds) (λ (v : M
 more_rows id = record { table = more; placed = refl; of_tree = refl; wide = λ v. refl; cast = more_cast id }
 
 pub more_put : (id : ℤ) (v : MoreValue) → Inserts insert_more more_tree (Int id ∷ more_values v) ((Int id ∷ more_values v) ∷ [])
-more_put id v = puts (more_rows id) insert_more 1 insert_more_is insert_more_plain refl v [] refl
+more_put id v = puts (more_rows id) insert_more 1 insert_more_is refl v [] refl

@@ -12,7 +12,7 @@ use Rattle.tables.specs.Contents.{Contents, Replies, Keeps}
 use Rattle.tables.specs.Steps.Texts.{select_reply}
 use Rattle.tables.specs.Steps.Selected.{AreTyped, IsFirstRead, ShowsOne}
 use Rattle.tables.specs.TableTrees.{keyed_tree}
-use Rattle.tables.proofs.Commands.{select_reply_is, select_reply_plain}
+use Rattle.tables.proofs.Commands.{select_reply_is}
 use Rattle.tables.proofs.Entries.{typed_as}
 use Rattle.tables.proofs.Selecting.{IsSelection, shows_one}
 
@@ -40,7 +40,6 @@ module _ (project key : List ℕ) where
     terms = col 1 3 ∷ [];
     names = codes "reply" ∷ [];
     is = select_reply_is;
-    plain = select_reply_plain;
     own = λ db. refl;
     shows = λ id e. refl;
     alike = λ id e. (tt, (tt, tt));

@@ -1,13 +1,11 @@
 -- The profile of a dump, as it is selected.
-use Rattle.std.proofs.Common.{◌≡◌, inl, inr, ℕ, ℤ, List, [], ◌∷◌, Option, Some, None, codes, false, refl, sym, ap, ◌∙◌, ◌↔◌}
-use Rattle.sqlite.specs.Listing.{understood, reads_listing}
+use Rattle.std.proofs.Common.{◌≡◌, inl, inr, ℕ, ℤ, List, [], ◌∷◌, Option, Some, None, codes, refl, sym, ap, ◌∙◌, ◌↔◌}
+use Rattle.sqlite.specs.Listing.{understood}
 use Rattle.sqlite.specs.State.{State as Store, Shown}
-use Rattle.sqlite.proofs.Callers.{IsPlain, command_of}
 use Rattle.sqlite_tied.specs.Compute.{everything}
 use Rattle.sqlite_value.specs.Order.{Row}
 use Rattle.sqlite_value.specs.declared.value.Value.TheVariants.{Int}
 use Rattle.sqlite_sql.specs.Term.{col}
-use Rattle.sqlite_schema.specs.declared.command.Command.TheVariants.{Select}
 use Rattle.sqlite_trees.specs.Tree.{Trees}
 use Rattle.sqlite_rules.specs.Lists.{Has}
 use Rattle.lsif.specs.declared.profile.Profile.{Profile}
@@ -22,25 +20,16 @@ use Rattle.tables.specs.Contents.{owned, slot_row}
 use Rattle.machine.specs.State.{State}
 use Rattle.tables.specs.Stands.{StandsFor}
 use Rattle.tables.specs.Steps.SelectionTexts.{select_profile}
-use Rattle.tables.specs.Steps.Selected.{IsFirstRead, IsQuery, equals}
+use Rattle.tables.specs.Steps.Selected.{IsFirstRead, equals}
 use Rattle.tables.specs.Steps.DumpEntries.{Entries, entry_values, ShowsOneOf}
 use Rattle.tables.specs.TableTrees.{slot_tree}
 use Rattle.tables.proofs.DumpEntries.{typed, shows_one_of}
-use Rattle.tables.proofs.Select.{one_table}
+use Rattle.tables.proofs.Select.{IsSelect, one_table}
 use Rattle.tables.proofs.Selecting.{IsSelection, shows_one}
-use Rattle.tables.proofs.Silent.{silent}
 
-select_profile_is : command_of (understood schema_two select_profile) ≡ Select (record { lets = []; body = one_table 22 (equals ((1, 0) ∷ [])) (col 1 2 ∷ []) }) (codes "profile" ∷ [])
+pub select_profile_is : IsSelect schema_two select_profile (one_table 22 (equals ((1, 0) ∷ [])) (col 1 2 ∷ [])) (codes "profile" ∷ [])
 unfolding understood everything
-select_profile_is = refl
-
-pub select_profile_plain : IsPlain (understood schema_two select_profile) × (reads_listing schema_two select_profile ≡ false)
-unfolding understood everything
-select_profile_plain = ((refl, refl), refl)
-
-pub select_profile_reads : IsQuery select_profile
-unfolding understood everything
-select_profile_reads = record { plain = select_profile_plain.0; silent = silent select_profile (λ schema base. refl) }
+select_profile_is = record { is = refl; plain = (refl, refl); unlisted = refl; silent = λ schema base. refl }
 
 abbrev IsProfile : DumpValue → Profile → Type 0
 IsProfile dump profile = dump.profile ≡ profile
@@ -75,7 +64,6 @@ module _ (db : Trees) (m : State) (s : StandsFor db m) (id : ℤ) where
     terms = col 1 2 ∷ [];
     names = codes "profile" ∷ [];
     is = select_profile_is;
-    plain = select_profile_plain;
     own = λ db. refl;
     shows = λ at e. refl;
     alike = λ at e. (tt, tt);

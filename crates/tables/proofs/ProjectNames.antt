@@ -7,14 +7,12 @@ use Rattle.std.specs.Cmp.{IsTotalOrder}
 use Rattle.std.specs.Cmp.Lexicographic.{on_texts, texts_ties}
 use Rattle.std.specs.String.{string_eq}
 use Rattle.std.specs.Ordering.{eq_by_cmp}
-use Rattle.sqlite.specs.Listing.{understood, reads_listing}
+use Rattle.sqlite.specs.Listing.{understood}
 use Rattle.sqlite.specs.State.{State as Store, Shown}
-use Rattle.sqlite.proofs.Callers.{IsPlain, command_of}
 use Rattle.sqlite_tied.specs.Compute.{everything}
 use Rattle.sqlite_value.specs.Order.{Row}
 use Rattle.sqlite_value.specs.declared.value.Value.TheVariants.{Text}
 use Rattle.sqlite_sql.specs.Term.{col}
-use Rattle.sqlite_schema.specs.declared.command.Command.TheVariants.{Select}
 use Rattle.sqlite_trees.specs.Tree.{Trees}
 use Rattle.sqlite_rules.specs.Lists.{Has}
 use Rattle.sqlite_rules.proofs.ListLemmas.{has_contained, contains_had}
@@ -34,26 +32,17 @@ use Rattle.machine.specs.Found.{project_found}
 use Rattle.machine.specs.Selections.{FindsProjects}
 use Rattle.machine.specs.declared.found.FoundProject.{FoundProject}
 use Rattle.tables.specs.Steps.SelectionTexts.{select_projects}
-use Rattle.tables.specs.Steps.Selected.{AreRead, IsQuery, Selects, equals}
+use Rattle.tables.specs.Steps.Selected.{AreRead, Selects, equals}
 use Rattle.tables.specs.Steps.Slots.{IsSlotOf, HasPart, IsTold}
 use Rattle.tables.proofs.DumpEntries.{dump_of, tags_of, rows_of, rows_of_tags}
 use Rattle.tables.proofs.FoundSlots.{SlotEntry, slot_values, typed_slots}
 use Rattle.tables.proofs.Keeping.{none_is_some, from_map, to_map, which_part, slot_is}
-use Rattle.tables.proofs.Select.{one_table}
+use Rattle.tables.proofs.Select.{IsSelect, one_table}
 use Rattle.tables.proofs.Selecting.{IsSelection, selects_typed, of_all, all_last}
-use Rattle.tables.proofs.Silent.{silent}
 
-select_projects_is : command_of (understood schema_two select_projects) ≡ Select (record { lets = []; body = one_table 1 (equals []) (col 1 2 ∷ []) }) (codes "project" ∷ [])
+pub select_projects_is : IsSelect schema_two select_projects (one_table 1 (equals []) (col 1 2 ∷ [])) (codes "project" ∷ [])
 unfolding understood everything
-select_projects_is = refl
-
-pub select_projects_plain : IsPlain (understood schema_two select_projects) × (reads_listing schema_two select_projects ≡ false)
-unfolding understood everything
-select_projects_plain = ((refl, refl), refl)
-
-pub select_projects_reads : IsQuery select_projects
-unfolding understood everything
-select_projects_reads = record { plain = select_projects_plain.0; silent = silent select_projects (λ schema base. refl) }
+select_projects_is = record { is = refl; plain = (refl, refl); unlisted = refl; silent = λ schema base. refl }
 
 -- ---- the order
 
@@ -86,7 +75,6 @@ selection = record {
   terms = col 1 2 ∷ [];
   names = codes "project" ∷ [];
   is = select_projects_is;
-  plain = select_projects_plain;
   own = λ db. refl;
   shows = λ id e. refl;
   alike = λ id e. tt;

@@ -19,7 +19,7 @@ use Rattle.tables.proofs.Cascade.{IsLeaf, Cut, taken_ordered, cascades}
 use Rattle.tables.proofs.Insert.{went, same_value, concluded, counted, plain_mode}
 use Rattle.tables.specs.Contents.{owned}
 use Rattle.tables.proofs.Keeping.{is_owned}
-use Rattle.tables.proofs.Commands.{delete_slot_is, delete_slot_plain}
+use Rattle.tables.proofs.Commands.{delete_slot_is}
 use Rattle.tables.specs.Steps.Texts.{delete_slot}
 use Rattle.sqlite_schema.specs.declared.command.Command.TheVariants.{Delete as Removes}
 use Rattle.sqlite.specs.Effect.{Database}
@@ -165,6 +165,6 @@ pub removes : (old new : State) (project : List ℕ) (part : ℤ) (count : ℕ) 
     → (new.now.schema ≡ schema_two) × ((r : Removed (Words project ∷ Int part ∷ []) by_project_and_part old.now.trees new.now.trees) × (count ≡ length r.rows))
 removes old new project part count has up h =
     let params = Words project ∷ Int part ∷ [] in
-    let w = runs_as delete_slot params old new schema_two has (Removes 1 (removal params by_project_and_part old.step_limit)) delete_slot_is delete_slot_plain count h in
+    let w = runs_as delete_slot params old new schema_two has (Removes 1 (removal params by_project_and_part old.step_limit)) delete_slot_is.is delete_slot_is.plain count h in
     let it = does params old.step_limit old.now (statement_of delete_slot (understood schema_two delete_slot)) w.tally new.now has w.changed up in
     (it.0, (it.1.0, w.counted ∙ ap (λ (o : Option ℕ). unwrap_or o 0) it.1.1))
