@@ -24,7 +24,7 @@ ghost use Rattle.tables.specs.TableTrees.{more_tree};
 use crate::columns::column;
 use crate::fault::Refusal;
 use crate::kinds::{INSERT_MORE, bind_more, has_more, has_same_more, naming_more, read_more};
-use crate::part_rows::{PartRow, insert_by};
+use crate::part_rows::{PartRow, insert_all};
 use crate::selection::{Listed, select_first};
 use flatten::{BearerRow, RangeRow, Results, Rows};
 use sqlite::types::ValueRef;
@@ -43,6 +43,15 @@ impl PartRow for MoreRow {
     ghost tree = { more_tree };
 
     ghost columns = { λ row. more_values (more_value row) };
+
+    #[tactic(auto, using(crate::proofs::Inserts::more_put))]
+    fn insert_one() -> &'static str {
+        INSERT_MORE
+    }
+
+    fn insert_eight() -> Option<&'static str> {
+        None
+    }
 
     fn bind<'a>(&'a self, slot: i64, values: &mut Vec<ValueRef<'a>>) -> Result<(), AllocError> {
         values.extend_from_slice(params![slot, self.line])?;
@@ -98,8 +107,7 @@ fn insert_line<S: Alter>(
         return Ok(());
     }
     let row = MoreRow { line, results };
-    let mut values = Vec::new(alloc);
-    insert_by(tx, slot, INSERT_MORE, from_ref(&row), &mut values)
+    insert_all(alloc, tx, slot, from_ref(&row))
 }
 
 /// Puts the rows of the lines of ranges.

@@ -36,11 +36,10 @@ pub record Inserts (text : List ℕ) (tree : ℕ) (values : Row) (rows : List Ro
   pub taken : map (cast_row (plainly table)) (value_rows values width (length terms / width) terms) ≡ map (λ v. Null ∷ v) rows
 
 -- it inserts one row, of its values
-abbrev pub InsertsOne : {X : Type 0} → List ℕ → ℕ → (X → Row) → Type 0
-InsertsOne {X} text tree columns = (slot : ℤ) (row : X) → Inserts text tree (Int slot ∷ columns row) ((Int slot ∷ columns row) ∷ [])
+pub record InsertsOne {X : Type 0} (text : List ℕ) (tree : ℕ) (columns : X → Row) : Type 0 where
+  pub one : (slot : ℤ) (row : X) → Inserts text tree (Int slot ∷ columns row) ((Int slot ∷ columns row) ∷ [])
 
 -- it inserts eight rows, of the values of one after the other
-abbrev pub InsertsEight : {X : Type 0} → List ℕ → ℕ → (X → Row) → Type 0
-InsertsEight {X} text tree columns =
-    (slot : ℤ) (rows : List X) → length rows ≡ 8
-    → Inserts text tree (flat_map (λ row. Int slot ∷ columns row) rows) (map (λ row. Int slot ∷ columns row) rows)
+pub record InsertsEight {X : Type 0} (text : List ℕ) (tree : ℕ) (columns : X → Row) : Type 0 where
+  pub eight : (slot : ℤ) (rows : List X) → length rows ≡ 8
+      → Inserts text tree (flat_map (λ row. Int slot ∷ columns row) rows) (map (λ row. Int slot ∷ columns row) rows)
