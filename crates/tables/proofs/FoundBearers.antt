@@ -27,7 +27,7 @@ use Rattle.machine.specs.State.{State}
 use Rattle.tables.specs.Stands.{StandsFor}
 use Rattle.machine.specs.Selections.{BearerFound, Bears, FindsBearers, bearer_found, bearer_row, bearer_found_cmp}
 use Rattle.machine.specs.declared.selections.FoundBearer.{FoundBearer}
-use Rattle.tables.specs.Steps.SelectionTexts.{select_bearers}
+use Rattle.tables.specs.declared.bearers.TheConstants.{SELECT_BEARERS_OF_KEY}
 use Rattle.tables.specs.Steps.Selected.{AreRead}
 use Rattle.tables.specs.Steps.DumpEntries.{Entries, entry_values}
 use Rattle.tables.specs.Steps.Known.{IsKnown, IsMore, MoreValue, more_values}
@@ -181,7 +181,7 @@ module _ (key : List ℕ) (db : Trees) (m : State) (s : StandsFor db m) where
         subst (Has rows) (shown_is e row.0 q more.0 (more_is e row.0 q _ refl more.0 more.1) refl)
         (all_joins params read_from rows a (row_of row.0 e) q more.0 (record { bearer = row.1; slot = not_null (of_dump e row.0) q (slot_there e row.0); more = more.1; passes = passes }))
 
-pub bearers_told : (key : List ℕ) (m : State) (old new : Store) (rows : List Row) (xs : List FoundBearer) → StandsFor old.now.trees m → old.now.schema ≡ schema_two → Shown select_bearers (Text key ∷ []) old new rows → AreRead told_columns rows xs
+pub bearers_told : (key : List ℕ) (m : State) (old new : Store) (rows : List Row) (xs : List FoundBearer) → StandsFor old.now.trees m → old.now.schema ≡ schema_two → Shown SELECT_BEARERS_OF_KEY.now (Text key ∷ []) old new rows → AreRead told_columns rows xs
     → (v : BearerFound) → Contains (map bearer_found xs) v ↔ Bears m key v
 bearers_told key m old new rows xs s has shown read v =
     let db = old.now.trees in

@@ -20,7 +20,7 @@ use Rattle.machine.specs.State.{State}
 use Rattle.tables.specs.Stands.{StandsFor}
 use Rattle.machine.specs.FoundTags.{FoundTag}
 use Rattle.tables.specs.declared.found_tags.TagRow.{TagRow}
-use Rattle.tables.specs.Steps.SelectionTexts.{select_named}
+use Rattle.tables.specs.declared.names.TheConstants.{SELECT_TAGS_OF_NAME}
 use Rattle.tables.specs.Steps.Selected.{AreRead, AreTyped, Selects, equals}
 use Rattle.tables.specs.Steps.TagRows.{TellsTag, TellNamed, tag_row_columns}
 use Rattle.tables.specs.TableTrees.{slot_tree, tag_tree}
@@ -36,7 +36,7 @@ tag_terms = col 1 1 ∷ col 1 2 ∷ col 1 3 ∷ col 1 4 ∷ col 1 5 ∷ col 1 6 
 abbrev pub tag_names : List (List ℕ)
 tag_names = codes "slot" ∷ codes "line" ∷ codes "name" ∷ codes "file" ∷ codes "address" ∷ codes "kind" ∷ codes "fields" ∷ []
 
-pub select_named_is : IsSelect schema_two select_named (one_table 17 (equals ((3, 0) ∷ [])) tag_terms) tag_names
+pub select_named_is : IsSelect schema_two SELECT_TAGS_OF_NAME.now (one_table 17 (equals ((3, 0) ∷ [])) tag_terms) tag_names
 unfolding understood everything
 select_named_is = record { is = refl; plain = (refl, refl); unlisted = refl; silent = λ schema base. refl }
 
@@ -129,7 +129,7 @@ module _ (name : List ℕ) where
     abbrev HasName : ℤ → TagEntries db m → Type 0
     HasName at e = e.0.found.tag.name ≡ name
 
-    selection : IsSelection (entry_row db m) (λ at e. entry_row db m e) HasName select_named (Text name ∷ []) 17
+    selection : IsSelection (entry_row db m) (λ at e. entry_row db m e) HasName SELECT_TAGS_OF_NAME.now (Text name ∷ []) 17
     selection = record {
       pairs = (3, 0) ∷ [];
       terms = tag_terms;
@@ -142,10 +142,10 @@ module _ (name : List ℕ) where
       wanted = λ at e w. (ap Text w, tt);
     }
 
-  pub named_found : (m : State) (old new : Store) (rows : List Row) (xs : List TagRow) → StandsFor old.now.trees m → old.now.schema ≡ schema_two → Shown select_named (Text name ∷ []) old new rows → AreRead tag_row_columns rows xs
+  pub named_found : (m : State) (old new : Store) (rows : List Row) (xs : List TagRow) → StandsFor old.now.trees m → old.now.schema ≡ schema_two → Shown SELECT_TAGS_OF_NAME.now (Text name ∷ []) old new rows → AreRead tag_row_columns rows xs
       → TellNamed old.now.trees m (λ text. text ≡ name) xs
   unfolding selection
   named_found m old new rows xs s schema shown read =
       let db = old.now.trees in
       told_named db m s (λ text. text ≡ name) xs
-      (selects_typed (entry_row db m) (λ at e. entry_row db m e) (HasName db m) tag_row_columns select_named (Text name ∷ []) 17 (selection db m) (λ x. refl) old new rows schema (typed_tags db m s) shown xs read)
+      (selects_typed (entry_row db m) (λ at e. entry_row db m e) (HasName db m) tag_row_columns SELECT_TAGS_OF_NAME.now (Text name ∷ []) 17 (selection db m) (λ x. refl) old new rows schema (typed_tags db m s) shown xs read)

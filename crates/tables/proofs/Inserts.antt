@@ -33,7 +33,11 @@ use Rattle.tables.specs.Kinds.{more_kinds, more_names}
 use Rattle.tables.specs.Steps.Known.{MoreValue, more_value, more_values}
 use Rattle.tables.specs.declared.more.MoreRow.{MoreRow}
 use Rattle.tables.specs.declared.tags_part.WrittenTag.{WrittenTag}
-use Rattle.tables.specs.Steps.Texts.{insert_slot, insert_keyed, insert_document, insert_range_row, insert_item, insert_hover, insert_mark, insert_bearer, insert_tag, insert_part_profile, insert_more, insert_range_rows, insert_items, insert_hovers, insert_marks, insert_bearers, insert_tags}
+use Rattle.tables.specs.declared.slots.TheConstants.{INSERT_INTO_SLOT, INSERT_INTO_KEYED}
+use Rattle.tables.specs.declared.dump_rows.TheConstants.{INSERT_DOCUMENT, INSERT_RANGE, INSERT_ITEM, INSERT_HOVER, INSERT_MARK, INSERT_BEARER, INSERT_EIGHT_RANGES, INSERT_EIGHT_ITEMS, INSERT_EIGHT_HOVERS, INSERT_EIGHT_MARKS, INSERT_EIGHT_BEARERS}
+use Rattle.tables.specs.declared.tags_part.TheConstants.{INSERT_TAG, INSERT_EIGHT_TAGS}
+use Rattle.tables.specs.declared.dump_part.TheConstants.{INSERT_INTO_PROFILES}
+use Rattle.tables.specs.declared.kinds.TheConstants.{INSERT_MORE}
 use Rattle.tables.specs.Schema.{schema_two, integer_column, slot, keyed, document, range_row, item, hover, mark, bearer, tag, part_profile, more}
 use Rattle.tables.specs.Steps.Puts.{Steps, Puts}
 use Rattle.tables.specs.Steps.Inserts.{Inserts, InsertsOne, InsertsEight, plainly}
@@ -133,105 +137,105 @@ eights {X} {at} {tree} {width} {columns} puts_rows text is counts = record { eig
 
 -- slot
 
-pub slot_put : (project : List ℕ) (part : ℤ) (old new : State) (r : Result ℕ Error) → old.now.schema ≡ schema_two → IsTrue old.in_transaction → ExecutesInside 0 insert_slot (Text project ∷ Int part ∷ []) old new r
+pub slot_put : (project : List ℕ) (part : ℤ) (old new : State) (r : Result ℕ Error) → old.now.schema ≡ schema_two → IsTrue old.in_transaction → ExecutesInside 0 INSERT_INTO_SLOT.now (Text project ∷ Int part ∷ []) old new r
     → OnOk r (Steps (Puts slot_tree new.last_rowid (Null ∷ Text project ∷ Int part ∷ [])) old new)
 slot_put project part =
-    put_at insert_slot (Text project ∷ Int part ∷ []) 1 slot (lit Null ∷ lit Null ∷ col 0 0 ∷ col 0 1 ∷ []) 4 insert_slot_is.is insert_slot_is.plain refl (Null ∷ Text project ∷ Int part ∷ []) (rw (cast_null, cast_int part) refl)
+    put_at INSERT_INTO_SLOT.now (Text project ∷ Int part ∷ []) 1 slot (lit Null ∷ lit Null ∷ col 0 0 ∷ col 0 1 ∷ []) 4 insert_slot_is.is insert_slot_is.plain refl (Null ∷ Text project ∷ Int part ∷ []) (rw (cast_null, cast_int part) refl)
 
 -- keyed
 
 keyed_rows : IsPut 2 keyed_tree 3 (λ (kept : List ℕ × (List ℕ × List ℕ)). Text kept.0 ∷ Text kept.1.0 ∷ Text kept.1.1 ∷ [])
 keyed_rows = record { table = keyed; placed = refl; of_tree = refl; wide = λ kept. refl; cast = λ kept. rw (cast_null) }
 
-pub keyed_put : (project key reply : List ℕ) → Inserts insert_keyed keyed_tree (Text project ∷ Text key ∷ Text reply ∷ []) ((Text project ∷ Text key ∷ Text reply ∷ []) ∷ [])
-keyed_put project key reply = puts keyed_rows insert_keyed 1 insert_keyed_is refl (project, (key, reply)) [] refl
+pub keyed_put : (project key reply : List ℕ) → Inserts INSERT_INTO_KEYED.now keyed_tree (Text project ∷ Text key ∷ Text reply ∷ []) ((Text project ∷ Text key ∷ Text reply ∷ []) ∷ [])
+keyed_put project key reply = puts keyed_rows INSERT_INTO_KEYED.now 1 insert_keyed_is refl (project, (key, reply)) [] refl
 
-pub keyed_listed : (project key reply : List ℕ) (old new : State) (done : Result ℕ Error) → old.now.schema ≡ schema_two → ExecutesInside 0 insert_keyed (Text project ∷ Text key ∷ Text reply ∷ []) old new done
+pub keyed_listed : (project key reply : List ℕ) (old new : State) (done : Result ℕ Error) → old.now.schema ≡ schema_two → ExecutesInside 0 INSERT_INTO_KEYED.now (Text project ∷ Text key ∷ Text reply ∷ []) old new done
     → OnOk done (IsListed schema_two new.now.trees)
 keyed_listed project key reply =
-    listed_ok insert_keyed keyed_tree (Text project ∷ Text key ∷ Text reply ∷ []) ((Text project ∷ Text key ∷ Text reply ∷ []) ∷ []) (keyed_put project key reply)
+    listed_ok INSERT_INTO_KEYED.now keyed_tree (Text project ∷ Text key ∷ Text reply ∷ []) ((Text project ∷ Text key ∷ Text reply ∷ []) ∷ []) (keyed_put project key reply)
 
 -- document
 
 document_rows : (id : ℤ) → IsPut 3 document_tree 2 (λ (row : DocRow). Int id ∷ document_columns (document_value row))
 document_rows id = record { table = document; placed = refl; of_tree = refl; wide = λ row. refl; cast = λ row. rw (cast_null, cast_int id) }
 
-pub document_put : InsertsOne insert_document document_tree (λ (row : DocRow). document_columns (document_value row))
-document_put = ones document_rows insert_document insert_document_is refl
+pub document_put : InsertsOne INSERT_DOCUMENT.now document_tree (λ (row : DocRow). document_columns (document_value row))
+document_put = ones document_rows INSERT_DOCUMENT.now insert_document_is refl
 
 -- range_row
 
 range_row_rows : (id : ℤ) → IsPut 4 range_row_tree 9 (λ (row : RangeRow). Int id ∷ range_columns (range_value row))
 range_row_rows id = record { table = range_row; placed = refl; of_tree = refl; wide = λ row. refl; cast = λ row. rw (cast_null, cast_int id, cast_int (pos (range_value row).line), cast_int (pos (packed_of (range_value row).place.span.start)), cast_int (pos (packed_of (range_value row).place.span.«end»)), cast_optional (range_value row).parent, cast_optional ((range_value row).results Definition), cast_optional ((range_value row).results References), cast_optional ((range_value row).results Hover)) }
 
-pub range_row_put : InsertsOne insert_range_row range_row_tree (λ (row : RangeRow). range_columns (range_value row))
-range_row_put = ones range_row_rows insert_range_row insert_range_row_is refl
+pub range_row_put : InsertsOne INSERT_RANGE.now range_row_tree (λ (row : RangeRow). range_columns (range_value row))
+range_row_put = ones range_row_rows INSERT_RANGE.now insert_range_row_is refl
 
-pub range_rows_put : InsertsEight insert_range_rows range_row_tree (λ (row : RangeRow). range_columns (range_value row))
-range_rows_put = eights range_row_rows insert_range_rows insert_range_rows_is refl
+pub range_rows_put : InsertsEight INSERT_EIGHT_RANGES.now range_row_tree (λ (row : RangeRow). range_columns (range_value row))
+range_rows_put = eights range_row_rows INSERT_EIGHT_RANGES.now insert_range_rows_is refl
 
 -- item
 
 item_rows : (id : ℤ) → IsPut 5 item_tree 6 (λ (row : ItemRow). Int id ∷ item_columns (item_value row))
 item_rows id = record { table = item; placed = refl; of_tree = refl; wide = λ row. refl; cast = λ row. rw (cast_null, cast_int id, cast_int (pos (item_value row).result), cast_int (pos (role_index (item_value row).role)), cast_int (pos (packed_of (item_value row).place.span.start)), cast_int (pos (packed_of (item_value row).place.span.«end»))) }
 
-pub item_put : InsertsOne insert_item item_tree (λ (row : ItemRow). item_columns (item_value row))
-item_put = ones item_rows insert_item insert_item_is refl
+pub item_put : InsertsOne INSERT_ITEM.now item_tree (λ (row : ItemRow). item_columns (item_value row))
+item_put = ones item_rows INSERT_ITEM.now insert_item_is refl
 
-pub items_put : InsertsEight insert_items item_tree (λ (row : ItemRow). item_columns (item_value row))
-items_put = eights item_rows insert_items insert_items_is refl
+pub items_put : InsertsEight INSERT_EIGHT_ITEMS.now item_tree (λ (row : ItemRow). item_columns (item_value row))
+items_put = eights item_rows INSERT_EIGHT_ITEMS.now insert_items_is refl
 
 -- hover
 
 hover_rows : (id : ℤ) → IsPut 6 hover_tree 3 (λ (row : HoverRow). Int id ∷ hover_columns (hover_value row))
 hover_rows id = record { table = hover; placed = refl; of_tree = refl; wide = λ row. refl; cast = λ row. rw (cast_null, cast_int id, cast_int (pos (hover_value row).result)) }
 
-pub hover_put : InsertsOne insert_hover hover_tree (λ (row : HoverRow). hover_columns (hover_value row))
-hover_put = ones hover_rows insert_hover insert_hover_is refl
+pub hover_put : InsertsOne INSERT_HOVER.now hover_tree (λ (row : HoverRow). hover_columns (hover_value row))
+hover_put = ones hover_rows INSERT_HOVER.now insert_hover_is refl
 
-pub hovers_put : InsertsEight insert_hovers hover_tree (λ (row : HoverRow). hover_columns (hover_value row))
-hovers_put = eights hover_rows insert_hovers insert_hovers_is refl
+pub hovers_put : InsertsEight INSERT_EIGHT_HOVERS.now hover_tree (λ (row : HoverRow). hover_columns (hover_value row))
+hovers_put = eights hover_rows INSERT_EIGHT_HOVERS.now insert_hovers_is refl
 
 -- mark
 
 mark_rows : (id : ℤ) → IsPut 7 mark_tree 4 (λ (row : MarkRow). Int id ∷ mark_columns (mark_value row))
 mark_rows id = record { table = mark; placed = refl; of_tree = refl; wide = λ row. refl; cast = λ row. rw (cast_null, cast_int id, cast_int (pos (mark_value row).range), cast_int (pos (kind_index (mark_value row).kind))) }
 
-pub mark_put : InsertsOne insert_mark mark_tree (λ (row : MarkRow). mark_columns (mark_value row))
-mark_put = ones mark_rows insert_mark insert_mark_is refl
+pub mark_put : InsertsOne INSERT_MARK.now mark_tree (λ (row : MarkRow). mark_columns (mark_value row))
+mark_put = ones mark_rows INSERT_MARK.now insert_mark_is refl
 
-pub marks_put : InsertsEight insert_marks mark_tree (λ (row : MarkRow). mark_columns (mark_value row))
-marks_put = eights mark_rows insert_marks insert_marks_is refl
+pub marks_put : InsertsEight INSERT_EIGHT_MARKS.now mark_tree (λ (row : MarkRow). mark_columns (mark_value row))
+marks_put = eights mark_rows INSERT_EIGHT_MARKS.now insert_marks_is refl
 
 -- bearer
 
 bearer_rows : (id : ℤ) → IsPut 8 bearer_tree 7 (λ (row : BearerRow). Int id ∷ bearer_columns (bearer_value row))
 bearer_rows id = record { table = bearer; placed = refl; of_tree = refl; wide = λ row. refl; cast = λ row. rw (cast_null, cast_int id, cast_int (pos (bearer_value row).line), cast_int (pos (kind_index (bearer_value row).kind)), cast_optional ((bearer_value row).results Definition), cast_optional ((bearer_value row).results References), cast_optional ((bearer_value row).results Hover)) }
 
-pub bearer_put : InsertsOne insert_bearer bearer_tree (λ (row : BearerRow). bearer_columns (bearer_value row))
-bearer_put = ones bearer_rows insert_bearer insert_bearer_is refl
+pub bearer_put : InsertsOne INSERT_BEARER.now bearer_tree (λ (row : BearerRow). bearer_columns (bearer_value row))
+bearer_put = ones bearer_rows INSERT_BEARER.now insert_bearer_is refl
 
-pub bearers_put : InsertsEight insert_bearers bearer_tree (λ (row : BearerRow). bearer_columns (bearer_value row))
-bearers_put = eights bearer_rows insert_bearers insert_bearers_is refl
+pub bearers_put : InsertsEight INSERT_EIGHT_BEARERS.now bearer_tree (λ (row : BearerRow). bearer_columns (bearer_value row))
+bearers_put = eights bearer_rows INSERT_EIGHT_BEARERS.now insert_bearers_is refl
 
 -- tag
 
 tag_rows : (id : ℤ) → IsPut 9 tag_tree 7 (λ (row : WrittenTag). Int id ∷ columns_with (tag_value row.tag.now) (string_bytes row.fields))
 tag_rows id = record { table = tag; placed = refl; of_tree = refl; wide = λ row. refl; cast = λ row. rw (cast_null, cast_int id, cast_int (pos (tag_value row.tag.now).line), cast_optional_text (tag_value row.tag.now).kind) }
 
-pub tag_put : InsertsOne insert_tag tag_tree (λ (row : WrittenTag). columns_with (tag_value row.tag.now) (string_bytes row.fields))
-tag_put = ones tag_rows insert_tag insert_tag_is refl
+pub tag_put : InsertsOne INSERT_TAG.now tag_tree (λ (row : WrittenTag). columns_with (tag_value row.tag.now) (string_bytes row.fields))
+tag_put = ones tag_rows INSERT_TAG.now insert_tag_is refl
 
-pub tags_put : InsertsEight insert_tags tag_tree (λ (row : WrittenTag). columns_with (tag_value row.tag.now) (string_bytes row.fields))
-tags_put = eights tag_rows insert_tags insert_tags_is refl
+pub tags_put : InsertsEight INSERT_EIGHT_TAGS.now tag_tree (λ (row : WrittenTag). columns_with (tag_value row.tag.now) (string_bytes row.fields))
+tags_put = eights tag_rows INSERT_EIGHT_TAGS.now insert_tags_is refl
 
 -- part_profile
 
 part_profile_rows : (id : ℤ) → IsPut 10 part_profile_tree 2 (λ profile. Int id ∷ profile_columns profile)
 part_profile_rows id = record { table = part_profile; placed = refl; of_tree = refl; wide = λ profile. refl; cast = λ profile. rw (cast_null, cast_int id, cast_int (pos (profile_number profile))) }
 
-pub part_profile_put : (id : ℤ) (profile : Profile) → Inserts insert_part_profile part_profile_tree (Int id ∷ profile_columns profile) ((Int id ∷ profile_columns profile) ∷ [])
-part_profile_put id profile = puts (part_profile_rows id) insert_part_profile 1 insert_part_profile_is refl profile [] refl
+pub part_profile_put : (id : ℤ) (profile : Profile) → Inserts INSERT_INTO_PROFILES.now part_profile_tree (Int id ∷ profile_columns profile) ((Int id ∷ profile_columns profile) ∷ [])
+part_profile_put id profile = puts (part_profile_rows id) INSERT_INTO_PROFILES.now 1 insert_part_profile_is refl profile [] refl
 
 -- more
 
@@ -250,5 +254,5 @@ more_cast id v =
 more_rows : (id : ℤ) → IsPut 11 more_tree (2 + length more_kinds) (λ (row : MoreRow). Int id ∷ more_values (more_value row))
 more_rows id = record { table = more; placed = refl; of_tree = refl; wide = λ row. refl; cast = λ row. more_cast id (more_value row) }
 
-pub more_put : InsertsOne insert_more more_tree (λ (row : MoreRow). more_values (more_value row))
-more_put = ones more_rows insert_more insert_more_is refl
+pub more_put : InsertsOne INSERT_MORE.now more_tree (λ (row : MoreRow). more_values (more_value row))
+more_put = ones more_rows INSERT_MORE.now insert_more_is refl

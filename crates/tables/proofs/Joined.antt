@@ -20,7 +20,7 @@ use Rattle.tables.proofs.Select.{IsSelect}
 use Rattle.tables.specs.Kinds.{more_names}
 use Rattle.tables.specs.Schema.{schema_two}
 use Rattle.tables.specs.Steps.Queries.{same}
-use Rattle.tables.specs.Steps.SelectionTexts.{select_bearers}
+use Rattle.tables.specs.declared.bearers.TheConstants.{SELECT_BEARERS_OF_KEY}
 use Rattle.tables.proofs.Keeping.{from_map, to_map}
 use Rattle.tables.proofs.LineResults.{more_terms}
 use Rattle.tables.proofs.Puts.{flat_has, from_flat, where_true, true_there}
@@ -54,7 +54,7 @@ joined = record {
   offset = lit (Int (pos 0));
 }
 
-pub joined_is : IsSelect schema_two select_bearers joined (codes "project" ∷ codes "line" ∷ codes "kind" ∷ codes "def" ∷ codes "refs" ∷ codes "hover" ∷ more_names)
+pub joined_is : IsSelect schema_two SELECT_BEARERS_OF_KEY.now joined (codes "project" ∷ codes "line" ∷ codes "kind" ∷ codes "def" ∷ codes "refs" ∷ codes "hover" ∷ more_names)
 unfolding understood everything
 joined_is = record { is = refl; plain = (refl, refl); unlisted = refl; silent = λ schema base. refl }
 
@@ -115,5 +115,5 @@ module _ (params : Row) (db : Trees) where
         let there : Has all_matches env = flat_has with_bearer (db 15) b env j.bearer (flat_has (with_slot b) (or_nulls (slots b)) s env j.slot (flat_has (with_more b s) (or_nulls (mores b s)) r env j.more one)) in
         has_permuted rows _ _ (IsPermutation-sym _ rows same_rows) (to_map (eval_all bearer_terms) all_matches env there)
 
-pub answer_of : (params : Row) (old new : State) (rows : List Row) → old.now.schema ≡ schema_two → Shown select_bearers params old new rows → IsAnswer joined (overlay old.now.trees []) params rows
-answer_of params old new rows has h = (reads_as select_bearers params old new schema_two has _ joined_is.is joined_is.plain joined_is.unlisted rows h).answer Null
+pub answer_of : (params : Row) (old new : State) (rows : List Row) → old.now.schema ≡ schema_two → Shown SELECT_BEARERS_OF_KEY.now params old new rows → IsAnswer joined (overlay old.now.trees []) params rows
+answer_of params old new rows has h = (reads_as SELECT_BEARERS_OF_KEY.now params old new schema_two has _ joined_is.is joined_is.plain joined_is.unlisted rows h).answer Null

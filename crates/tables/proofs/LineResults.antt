@@ -31,7 +31,7 @@ use Rattle.flatten.specs.Rows.{results_value}
 use Rattle.machine.specs.State.{State}
 use Rattle.tables.specs.Stands.{StandsFor}
 use Rattle.tables.specs.declared.more.MoreRow.{MoreRow}
-use Rattle.tables.specs.Steps.SelectionTexts.{select_more}
+use Rattle.tables.specs.declared.more.TheConstants.{SELECT_MORE}
 use Rattle.tables.specs.Steps.Selected.{IsFirstRead, equals}
 use Rattle.tables.specs.Steps.DumpEntries.{Entries, entry_values, ShowsOneOf}
 use Rattle.tables.specs.Steps.Known.{IsKnown, MoreValue, IsMore, more_value, more_values}
@@ -45,7 +45,7 @@ use Rattle.tables.proofs.Puts.{flat_has, from_flat, where_true, true_there}
 abbrev pub more_terms : ℕ → List Term
 more_terms place = map (col place) (range_with_len 3 (length more_kinds))
 
-pub select_more_is : IsSelect schema_two select_more (one_table 24 (equals ((1, 0) ∷ (2, 1) ∷ [])) (col 1 2 ∷ more_terms 1)) (codes "line" ∷ more_names)
+pub select_more_is : IsSelect schema_two SELECT_MORE.now (one_table 24 (equals ((1, 0) ∷ (2, 1) ∷ [])) (col 1 2 ∷ more_terms 1)) (codes "line" ∷ more_names)
 unfolding understood everything
 select_more_is = record { is = refl; plain = (refl, refl); unlisted = refl; silent = λ schema base. refl }
 
@@ -168,7 +168,7 @@ module _ (line : ℕ) where
     abbrev IsWanted : ℤ → Entries IsMore db m → Type 0
     IsWanted at e = (e.0.slot ≡ id) × IsAtLine e.0.value
 
-    selection : IsSelection (entry_values more_values IsMore db m) (λ at e. more_values e.0.value) IsWanted select_more (Int id ∷ number line ∷ []) 24
+    selection : IsSelection (entry_values more_values IsMore db m) (λ at e. more_values e.0.value) IsWanted SELECT_MORE.now (Int id ∷ number line ∷ []) 24
     selection = record {
       pairs = (1, 0) ∷ (2, 1) ∷ [];
       terms = col 1 2 ∷ more_terms 1;
@@ -205,10 +205,10 @@ module _ (line : ℕ) where
   says_none s results nothing_there none = none_of more_kinds s results nothing_there none
 
   pub more_found : (m : State) (id : ℤ) (project : List ℕ) (dump : DumpValue) (old new : Store) (rows : List Row) (found : Option MoreRow) → StandsFor old.now.trees m → old.now.schema ≡ schema_two → Has (old.now.trees slot_tree) (slot_row id project Dump)
-      → m.dump project ≡ Some dump → Shown select_more (Int id ∷ number line ∷ []) old new rows → IsFirstRead more_read rows found → (results : ResultsValue) → IsKnown dump line results → Says found results
+      → m.dump project ≡ Some dump → Shown SELECT_MORE.now (Int id ∷ number line ∷ []) old new rows → IsFirstRead more_read rows found → (results : ResultsValue) → IsKnown dump line results → Says found results
   unfolding selection
   more_found m id project dump old new rows found s schema slot has shown read results known =
       let db = old.now.trees in
       says dump results known found (shows_one_of db m s IsMore more_values 24 is_owned are (λ tags. refl) project dump id slot has IsAtLine more_values more_read found
-      (shows_one (entry_values more_values IsMore db m) (λ at e. more_values e.0.value) (IsWanted db m id) more_read select_more (Int id ∷ number line ∷ []) 24 (selection db m id) (λ x. refl) old new rows schema
+      (shows_one (entry_values more_values IsMore db m) (λ at e. more_values e.0.value) (IsWanted db m id) more_read SELECT_MORE.now (Int id ∷ number line ∷ []) 24 (selection db m id) (λ x. refl) old new rows schema
       (typed db m s IsMore more_values 24 is_owned are (λ tags. refl)) shown found read))

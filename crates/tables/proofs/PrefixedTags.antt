@@ -28,7 +28,7 @@ use Rattle.tables.specs.Schema.{schema_two}
 use Rattle.tables.specs.Stands.{StandsFor}
 use Rattle.tables.specs.TableTrees.{tag_tree}
 use Rattle.tables.specs.declared.found_tags.TagRow.{TagRow}
-use Rattle.tables.specs.Steps.SelectionTexts.{select_prefixed}
+use Rattle.tables.specs.declared.names.TheConstants.{SELECT_TAGS_OF_PREFIX}
 use Rattle.tables.specs.Steps.Selected.{AreRead, Selects}
 use Rattle.tables.specs.Steps.TagRows.{IsBehind, TellNamed, tag_row_columns}
 use Rattle.tables.proofs.FoundTags.{TagEntries, entry_row, tag_terms, tag_names, typed_tags, told_named}
@@ -42,7 +42,7 @@ use Rattle.tables.proofs.Selecting.{show, all_of, from_table, into_answer, wide_
 abbrev within_prefix : List Term
 within_prefix = op2 (Compare Ge Binary) (col 1 3) (col 0 0) ∷ op2 (Compare Lt Binary) (col 1 3) (col 0 1) ∷ []
 
-pub select_prefixed_is : IsSelect schema_two select_prefixed (one_table 17 within_prefix tag_terms) tag_names
+pub select_prefixed_is : IsSelect schema_two SELECT_TAGS_OF_PREFIX.now (one_table 17 within_prefix tag_terms) tag_names
 unfolding understood everything
 select_prefixed_is = record { is = refl; plain = (refl, refl); unlisted = refl; silent = λ schema base. refl }
 
@@ -88,7 +88,7 @@ module _ (prefix : List ℕ) (behind : Value) (is_behind : IsBehind prefix behin
           let is = rows_are tag_row_columns 7 (λ x. refl) rows xs (wide_as within_prefix tag_terms params (db tag_tree) rows same) read in
           told_named db m s (λ text. BeginsWith text prefix) xs (subst (Selects (entry_row db m) (λ at e. entry_row db m e) (λ at e. BeginsWith (name_of e) prefix) db 17) is all_within)
 
-  pub told_prefixed : (m : State) (old new : Store) (rows : List Row) (xs : List TagRow) → StandsFor old.now.trees m → old.now.schema ≡ schema_two → Shown select_prefixed params old new rows → AreRead tag_row_columns rows xs
+  pub told_prefixed : (m : State) (old new : Store) (rows : List Row) (xs : List TagRow) → StandsFor old.now.trees m → old.now.schema ≡ schema_two → Shown SELECT_TAGS_OF_PREFIX.now params old new rows → AreRead tag_row_columns rows xs
       → TellNamed old.now.trees m (λ text. BeginsWith text prefix) xs
   told_prefixed m old new rows xs s schema shown read =
-      told old.now.trees m s rows (selects schema_two select_prefixed params 17 within_prefix tag_terms tag_names select_prefixed_is (λ db. refl) old new rows schema shown) xs read
+      told old.now.trees m s rows (selects schema_two SELECT_TAGS_OF_PREFIX.now params 17 within_prefix tag_terms tag_names select_prefixed_is (λ db. refl) old new rows schema shown) xs read

@@ -40,7 +40,7 @@ use Rattle.tables.specs.Steps.Climbs.{IsStart, IsStarted, ComesBefore}
 use Rattle.tables.specs.Steps.DumpEntries.{Entries, entry_values}
 use Rattle.tables.specs.Steps.Queries.{same}
 use Rattle.tables.specs.Steps.Selected.{IsFirstRead}
-use Rattle.tables.specs.Steps.SelectionTexts.{select_start}
+use Rattle.tables.specs.declared.range_rows.TheConstants.{SELECT_START}
 use Rattle.tables.specs.TableTrees.{range_row_tree, slot_tree}
 use Rattle.tables.proofs.DumpEntries.{typed, held, in_dump, entry}
 use Rattle.tables.proofs.FirstRows.{IsFirst, first_is}
@@ -61,7 +61,7 @@ start_tests = same (col 1 1) (col 0 0) ∷ same (col 1 3) (col 0 1) ∷ op2 (Com
 abbrev start_order : List (Term × Key)
 start_order = (col 1 4, record { collation = Binary; descending = true }) ∷ (col 1 5, record { collation = Binary; descending = false }) ∷ []
 
-pub select_start_is : IsSelect schema_two select_start (in_order 7 start_tests range_terms start_order (pos 1)) range_names
+pub select_start_is : IsSelect schema_two SELECT_START.now (in_order 7 start_tests range_terms start_order (pos 1)) range_names
 unfolding understood everything
 select_start_is = record { is = refl; plain = (refl, refl); unlisted = refl; silent = λ schema base. refl }
 
@@ -220,8 +220,8 @@ module _ (db : Trees) (m : State) (s : StandsFor db m) (project : List ℕ) (dum
       )
 
 pub start_found : (m : State) (id : ℤ) (project : List ℕ) (dump : DumpValue) (uri : List ℕ) (p : PositionValue) (old new : Store) (rows : List Row) (found : Option SlotRange) → IsPosition p → StandsFor old.now.trees m → old.now.schema ≡ schema_two
-    → Has (old.now.trees slot_tree) (slot_row id project Dump) → m.dump project ≡ Some dump → Shown select_start (Int id ∷ Text uri ∷ position p ∷ []) old new rows → IsFirstRead found_columns rows found → IfSome found IsSound → IsStart dump uri p found
+    → Has (old.now.trees slot_tree) (slot_row id project Dump) → m.dump project ≡ Some dump → Shown SELECT_START.now (Int id ∷ Text uri ∷ position p ∷ []) old new rows → IsFirstRead found_columns rows found → IfSome found IsSound → IsStart dump uri p found
 start_found m id project dump uri p old new rows found good s schema slot has shown read sound =
     let params = Int id ∷ Text uri ∷ position p ∷ [] in
-    let it = selects_in_order schema_two select_start params 7 start_tests range_terms start_order (pos 1) range_names select_start_is (λ db. refl) old new rows schema shown in
+    let it = selects_in_order schema_two SELECT_START.now params 7 start_tests range_terms start_order (pos 1) range_names select_start_is (λ db. refl) old new rows schema shown in
     start_is old.now.trees m s project dump id slot has uri p good rows found (first_is start_tests range_terms start_order params (old.now.trees range_row_tree) it.0 rows it.1 it.2) read sound

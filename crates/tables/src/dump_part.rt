@@ -57,6 +57,8 @@ fn insert_contents<S: Alter>(
     insert_all(alloc, tx, slot, rows.bearers.as_slice())
 }
 
+const INSERT_INTO_PROFILES: &str = "INSERT INTO part_profile (slot, profile) VALUES (?1, ?2)";
+
 /// Puts the profile of a dump.
 fn insert_profile<S: Alter>(
     tx: &mut Transaction<'_, S>,
@@ -67,11 +69,7 @@ fn insert_profile<S: Alter>(
     ensures uncommitted { CommitsNothing S.Store tx.old.conn tx.new.conn }
 {
     let number = profile.number();
-    run(
-        tx,
-        "INSERT INTO part_profile (slot, profile) VALUES (?1, ?2)",
-        params![slot, number],
-    )
+    run(tx, INSERT_INTO_PROFILES, params![slot, number])
 }
 
 /// Puts the rows of a dump under a slot of its own, where the project has none.

@@ -37,6 +37,36 @@ pub(crate) fn kind_number(kind: MonikerKind) -> u32
     }
 }
 
+const INSERT_DOCUMENT: &str = "INSERT INTO document (slot, uri) VALUES (?1, ?2)";
+
+const INSERT_RANGE: &str =
+    "INSERT INTO range_row (slot, line, uri, first, last, parent, def, refs, hover) VALUES (?1, ?2, ?3, ?4, ?5, ?6, ?7, ?8, ?9)";
+
+const INSERT_EIGHT_RANGES: &str =
+    "INSERT INTO range_row (slot, line, uri, first, last, parent, def, refs, hover) VALUES (?,?,?,?,?,?,?,?,?),(?,?,?,?,?,?,?,?,?),(?,?,?,?,?,?,?,?,?),(?,?,?,?,?,?,?,?,?),(?,?,?,?,?,?,?,?,?),(?,?,?,?,?,?,?,?,?),(?,?,?,?,?,?,?,?,?),(?,?,?,?,?,?,?,?,?)";
+
+const INSERT_ITEM: &str =
+    "INSERT INTO item (slot, result, role, uri, first, last) VALUES (?1, ?2, ?3, ?4, ?5, ?6)";
+
+const INSERT_EIGHT_ITEMS: &str =
+    "INSERT INTO item (slot, result, role, uri, first, last) VALUES (?,?,?,?,?,?),(?,?,?,?,?,?),(?,?,?,?,?,?),(?,?,?,?,?,?),(?,?,?,?,?,?),(?,?,?,?,?,?),(?,?,?,?,?,?),(?,?,?,?,?,?)";
+
+const INSERT_HOVER: &str = "INSERT INTO hover (slot, result, contents) VALUES (?1, ?2, ?3)";
+
+const INSERT_EIGHT_HOVERS: &str =
+    "INSERT INTO hover (slot, result, contents) VALUES (?,?,?),(?,?,?),(?,?,?),(?,?,?),(?,?,?),(?,?,?),(?,?,?),(?,?,?)";
+
+const INSERT_MARK: &str = "INSERT INTO mark (slot, line, kind, keytext) VALUES (?1, ?2, ?3, ?4)";
+
+const INSERT_EIGHT_MARKS: &str =
+    "INSERT INTO mark (slot, line, kind, keytext) VALUES (?,?,?,?),(?,?,?,?),(?,?,?,?),(?,?,?,?),(?,?,?,?),(?,?,?,?),(?,?,?,?),(?,?,?,?)";
+
+const INSERT_BEARER: &str =
+    "INSERT INTO bearer (slot, line, keytext, kind, def, refs, hover) VALUES (?1, ?2, ?3, ?4, ?5, ?6, ?7)";
+
+const INSERT_EIGHT_BEARERS: &str =
+    "INSERT INTO bearer (slot, line, keytext, kind, def, refs, hover) VALUES (?,?,?,?,?,?,?),(?,?,?,?,?,?,?),(?,?,?,?,?,?,?),(?,?,?,?,?,?,?),(?,?,?,?,?,?,?),(?,?,?,?,?,?,?),(?,?,?,?,?,?,?),(?,?,?,?,?,?,?)";
+
 /// The results that the rows of ranges and of bearers have themselves. The others are in rows of
 /// their own (`more.rt`).
 fn own_results(results: Results) -> (Option<u32>, Option<u32>, Option<u32>)
@@ -62,7 +92,7 @@ impl PartRow for DocRow<'_> {
     fn insert_one() -> &'static str
         ensures { InsertsOne result.now document_tree (λ row. document_columns (document_value row)) }
     {
-        "INSERT INTO document (slot, uri) VALUES (?1, ?2)"
+        INSERT_DOCUMENT
     }
 
     fn insert_eight() -> Option<&'static str>
@@ -85,16 +115,14 @@ impl PartRow for RangeRow<'_> {
     fn insert_one() -> &'static str
         ensures { InsertsOne result.now range_row_tree (λ row. range_columns (range_value row)) }
     {
-        "INSERT INTO range_row (slot, line, uri, first, last, parent, def, refs, hover) VALUES (?1, ?2, ?3, ?4, ?5, ?6, ?7, ?8, ?9)"
+        INSERT_RANGE
     }
 
     #[tactic(auto, using(crate::proofs::Inserts::range_rows_put))]
     fn insert_eight() -> Option<&'static str>
         ensures { IfSome result (λ text. InsertsEight text.now range_row_tree (λ row. range_columns (range_value row))) }
     {
-        Some(
-            "INSERT INTO range_row (slot, line, uri, first, last, parent, def, refs, hover) VALUES (?,?,?,?,?,?,?,?,?),(?,?,?,?,?,?,?,?,?),(?,?,?,?,?,?,?,?,?),(?,?,?,?,?,?,?,?,?),(?,?,?,?,?,?,?,?,?),(?,?,?,?,?,?,?,?,?),(?,?,?,?,?,?,?,?,?),(?,?,?,?,?,?,?,?,?)",
-        )
+        Some(INSERT_EIGHT_RANGES)
     }
 
     fn bind<'a>(&'a self, slot: i64, values: &mut Vec<ValueRef<'a>>) -> Result<(), AllocError> {
@@ -123,16 +151,14 @@ impl PartRow for ItemRow<'_> {
     fn insert_one() -> &'static str
         ensures { InsertsOne result.now item_tree (λ row. item_columns (item_value row)) }
     {
-        "INSERT INTO item (slot, result, role, uri, first, last) VALUES (?1, ?2, ?3, ?4, ?5, ?6)"
+        INSERT_ITEM
     }
 
     #[tactic(auto, using(crate::proofs::Inserts::items_put))]
     fn insert_eight() -> Option<&'static str>
         ensures { IfSome result (λ text. InsertsEight text.now item_tree (λ row. item_columns (item_value row))) }
     {
-        Some(
-            "INSERT INTO item (slot, result, role, uri, first, last) VALUES (?,?,?,?,?,?),(?,?,?,?,?,?),(?,?,?,?,?,?),(?,?,?,?,?,?),(?,?,?,?,?,?),(?,?,?,?,?,?),(?,?,?,?,?,?),(?,?,?,?,?,?)",
-        )
+        Some(INSERT_EIGHT_ITEMS)
     }
 
     fn bind<'a>(&'a self, slot: i64, values: &mut Vec<ValueRef<'a>>) -> Result<(), AllocError> {
@@ -151,16 +177,14 @@ impl PartRow for HoverRow<'_> {
     fn insert_one() -> &'static str
         ensures { InsertsOne result.now hover_tree (λ row. hover_columns (hover_value row)) }
     {
-        "INSERT INTO hover (slot, result, contents) VALUES (?1, ?2, ?3)"
+        INSERT_HOVER
     }
 
     #[tactic(auto, using(crate::proofs::Inserts::hovers_put))]
     fn insert_eight() -> Option<&'static str>
         ensures { IfSome result (λ text. InsertsEight text.now hover_tree (λ row. hover_columns (hover_value row))) }
     {
-        Some(
-            "INSERT INTO hover (slot, result, contents) VALUES (?,?,?),(?,?,?),(?,?,?),(?,?,?),(?,?,?),(?,?,?),(?,?,?),(?,?,?)",
-        )
+        Some(INSERT_EIGHT_HOVERS)
     }
 
     fn bind<'a>(&'a self, slot: i64, values: &mut Vec<ValueRef<'a>>) -> Result<(), AllocError> {
@@ -175,14 +199,12 @@ impl PartRow for MarkRow {
 
     #[tactic(auto, using(crate::proofs::Inserts::mark_put))]
     fn insert_one() -> &'static str {
-        "INSERT INTO mark (slot, line, kind, keytext) VALUES (?1, ?2, ?3, ?4)"
+        INSERT_MARK
     }
 
     #[tactic(auto, using(crate::proofs::Inserts::marks_put))]
     fn insert_eight() -> Option<&'static str> {
-        Some(
-            "INSERT INTO mark (slot, line, kind, keytext) VALUES (?,?,?,?),(?,?,?,?),(?,?,?,?),(?,?,?,?),(?,?,?,?),(?,?,?,?),(?,?,?,?),(?,?,?,?)",
-        )
+        Some(INSERT_EIGHT_MARKS)
     }
 
     fn bind<'a>(&'a self, slot: i64, values: &mut Vec<ValueRef<'a>>) -> Result<(), AllocError> {
@@ -198,14 +220,12 @@ impl PartRow for BearerRow {
 
     #[tactic(auto, using(crate::proofs::Inserts::bearer_put))]
     fn insert_one() -> &'static str {
-        "INSERT INTO bearer (slot, line, keytext, kind, def, refs, hover) VALUES (?1, ?2, ?3, ?4, ?5, ?6, ?7)"
+        INSERT_BEARER
     }
 
     #[tactic(auto, using(crate::proofs::Inserts::bearers_put))]
     fn insert_eight() -> Option<&'static str> {
-        Some(
-            "INSERT INTO bearer (slot, line, keytext, kind, def, refs, hover) VALUES (?,?,?,?,?,?,?),(?,?,?,?,?,?,?),(?,?,?,?,?,?,?),(?,?,?,?,?,?,?),(?,?,?,?,?,?,?),(?,?,?,?,?,?,?),(?,?,?,?,?,?,?),(?,?,?,?,?,?,?)",
-        )
+        Some(INSERT_EIGHT_BEARERS)
     }
 
     fn bind<'a>(&'a self, slot: i64, values: &mut Vec<ValueRef<'a>>) -> Result<(), AllocError> {

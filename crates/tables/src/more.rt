@@ -70,6 +70,8 @@ impl Listed for MoreRow {
     }
 }
 
+const SELECT_MORE: &str = naming_more!("SELECT line, ", " FROM more WHERE slot = ?1 AND line = ?2");
+
 /// The results that a line of the dump that has this slot has in `more`.
 pub(crate) fn more_of<S: Alter>(
     conn: &mut Connection<S>,
@@ -80,11 +82,7 @@ pub(crate) fn more_of<S: Alter>(
         → IfOk result (λ more. map (results_value more) more_kinds ≡ map results more_kinds)) }
     ensures reads { OnlyReads S.Store result conn.old conn.new }
 {
-    let found: Option<MoreRow> = select_first(
-        conn,
-        naming_more!("SELECT line, ", " FROM more WHERE slot = ?1 AND line = ?2"),
-        params![slot, line],
-    )?;
+    let found: Option<MoreRow> = select_first(conn, SELECT_MORE, params![slot, line])?;
     match found {
         Some(more) => Ok(more.results),
         None => Ok(Results::none()),

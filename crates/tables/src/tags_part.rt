@@ -23,6 +23,12 @@ use sqlite::{Alter, Error, Transaction, params};
 use std::alloc::{AllocError, Global};
 use tags::{Field, Tag};
 
+const INSERT_TAG: &str =
+    "INSERT INTO tag (slot, line, name, file, address, kind, fields) VALUES (?1, ?2, ?3, ?4, ?5, ?6, ?7)";
+
+const INSERT_EIGHT_TAGS: &str =
+    "INSERT INTO tag (slot, line, name, file, address, kind, fields) VALUES (?,?,?,?,?,?,?),(?,?,?,?,?,?,?),(?,?,?,?,?,?,?),(?,?,?,?,?,?,?),(?,?,?,?,?,?,?),(?,?,?,?,?,?,?),(?,?,?,?,?,?,?),(?,?,?,?,?,?,?)";
+
 /// The text of the fields of a tag.
 fn fields_text(alloc: Global, fields: &[Field]) -> Result<String, AllocError>
     ensures { IfOk result (λ text. string_bytes text ≡ fields_text (map field_value fields.now)) }
@@ -46,16 +52,14 @@ impl PartRow for WrittenTag<'_> {
     fn insert_one() -> &'static str
         ensures { InsertsOne result.now tag_tree (λ (row : WrittenTag). columns_with (tag_value row.tag.now) (string_bytes row.fields)) }
     {
-        "INSERT INTO tag (slot, line, name, file, address, kind, fields) VALUES (?1, ?2, ?3, ?4, ?5, ?6, ?7)"
+        INSERT_TAG
     }
 
     #[tactic(auto, using(crate::proofs::Inserts::tags_put))]
     fn insert_eight() -> Option<&'static str>
         ensures { IfSome result (λ text. InsertsEight text.now tag_tree (λ (row : WrittenTag). columns_with (tag_value row.tag.now) (string_bytes row.fields))) }
     {
-        Some(
-            "INSERT INTO tag (slot, line, name, file, address, kind, fields) VALUES (?,?,?,?,?,?,?),(?,?,?,?,?,?,?),(?,?,?,?,?,?,?),(?,?,?,?,?,?,?),(?,?,?,?,?,?,?),(?,?,?,?,?,?,?),(?,?,?,?,?,?,?),(?,?,?,?,?,?,?)",
-        )
+        Some(INSERT_EIGHT_TAGS)
     }
 
     fn bind<'a>(&'a self, slot: i64, values: &mut Vec<ValueRef<'a>>) -> Result<(), AllocError> {

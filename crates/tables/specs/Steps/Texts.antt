@@ -1,6 +1,7 @@
--- The texts of SQL.
+-- The texts of SQL that the batches have, and that of the version. Those of other statements are
+-- constants of the code.
 use Rattle.std.specs.Prelude.{codes, ℕ, List, [], ◌∷◌, ◌++◌, map}
-use Rattle.tables.specs.Kinds.{more_listed, more_declared, more_places}
+use Rattle.tables.specs.Kinds.{more_declared}
 use Rattle.tables.specs.Schema.{added_names}
 
 abbrev pub format_text : List ℕ
@@ -90,62 +91,3 @@ filling = batch (fill_profiles ∷ []) set_version
 
 abbrev pub upgrading : List ℕ
 upgrading = batch (map drop_text added_names) (batch added_texts filling)
-
--- ---- of a transaction
-
-abbrev pub delete_slot : List ℕ
-delete_slot = codes "DELETE FROM slot WHERE project = ?1 AND part = ?2"
-
-abbrev pub insert_slot : List ℕ
-insert_slot = codes "INSERT INTO slot (project, part) VALUES (?1, ?2)"
-
-abbrev pub insert_keyed : List ℕ
-insert_keyed = codes "INSERT INTO keyed (project, cmdkey, reply) VALUES (?1, ?2, ?3)"
-
-abbrev pub insert_document : List ℕ
-insert_document = codes "INSERT INTO document (slot, uri) VALUES (?1, ?2)"
-
-abbrev pub insert_range_row : List ℕ
-insert_range_row = codes "INSERT INTO range_row (slot, line, uri, first, last, parent, def, refs, hover) VALUES (?1, ?2, ?3, ?4, ?5, ?6, ?7, ?8, ?9)"
-
-abbrev pub insert_range_rows : List ℕ
-insert_range_rows = codes "INSERT INTO range_row (slot, line, uri, first, last, parent, def, refs, hover) VALUES (?,?,?,?,?,?,?,?,?),(?,?,?,?,?,?,?,?,?),(?,?,?,?,?,?,?,?,?),(?,?,?,?,?,?,?,?,?),(?,?,?,?,?,?,?,?,?),(?,?,?,?,?,?,?,?,?),(?,?,?,?,?,?,?,?,?),(?,?,?,?,?,?,?,?,?)"
-
-abbrev pub insert_item : List ℕ
-insert_item = codes "INSERT INTO item (slot, result, role, uri, first, last) VALUES (?1, ?2, ?3, ?4, ?5, ?6)"
-
-abbrev pub insert_items : List ℕ
-insert_items = codes "INSERT INTO item (slot, result, role, uri, first, last) VALUES (?,?,?,?,?,?),(?,?,?,?,?,?),(?,?,?,?,?,?),(?,?,?,?,?,?),(?,?,?,?,?,?),(?,?,?,?,?,?),(?,?,?,?,?,?),(?,?,?,?,?,?)"
-
-abbrev pub insert_hover : List ℕ
-insert_hover = codes "INSERT INTO hover (slot, result, contents) VALUES (?1, ?2, ?3)"
-
-abbrev pub insert_hovers : List ℕ
-insert_hovers = codes "INSERT INTO hover (slot, result, contents) VALUES (?,?,?),(?,?,?),(?,?,?),(?,?,?),(?,?,?),(?,?,?),(?,?,?),(?,?,?)"
-
-abbrev pub insert_mark : List ℕ
-insert_mark = codes "INSERT INTO mark (slot, line, kind, keytext) VALUES (?1, ?2, ?3, ?4)"
-
-abbrev pub insert_marks : List ℕ
-insert_marks = codes "INSERT INTO mark (slot, line, kind, keytext) VALUES (?,?,?,?),(?,?,?,?),(?,?,?,?),(?,?,?,?),(?,?,?,?),(?,?,?,?),(?,?,?,?),(?,?,?,?)"
-
-abbrev pub insert_bearer : List ℕ
-insert_bearer = codes "INSERT INTO bearer (slot, line, keytext, kind, def, refs, hover) VALUES (?1, ?2, ?3, ?4, ?5, ?6, ?7)"
-
-abbrev pub insert_bearers : List ℕ
-insert_bearers = codes "INSERT INTO bearer (slot, line, keytext, kind, def, refs, hover) VALUES (?,?,?,?,?,?,?),(?,?,?,?,?,?,?),(?,?,?,?,?,?,?),(?,?,?,?,?,?,?),(?,?,?,?,?,?,?),(?,?,?,?,?,?,?),(?,?,?,?,?,?,?),(?,?,?,?,?,?,?)"
-
-abbrev pub insert_part_profile : List ℕ
-insert_part_profile = codes "INSERT INTO part_profile (slot, profile) VALUES (?1, ?2)"
-
-abbrev pub insert_more : List ℕ
-insert_more = codes "INSERT INTO more (slot, line, " ++ (more_listed ++ (codes ") VALUES (?, ?, " ++ (more_places ++ codes ")")))
-
-abbrev pub insert_tag : List ℕ
-insert_tag = codes "INSERT INTO tag (slot, line, name, file, address, kind, fields) VALUES (?1, ?2, ?3, ?4, ?5, ?6, ?7)"
-
-abbrev pub insert_tags : List ℕ
-insert_tags = codes "INSERT INTO tag (slot, line, name, file, address, kind, fields) VALUES (?,?,?,?,?,?,?),(?,?,?,?,?,?,?),(?,?,?,?,?,?,?),(?,?,?,?,?,?,?),(?,?,?,?,?,?,?),(?,?,?,?,?,?,?),(?,?,?,?,?,?,?),(?,?,?,?,?,?,?)"
-
-abbrev pub select_reply : List ℕ
-select_reply = codes "SELECT reply FROM keyed WHERE project = ?1 AND cmdkey = ?2"
