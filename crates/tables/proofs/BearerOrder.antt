@@ -1,5 +1,5 @@
 -- The order of bearers, and lists in it.
-use Rattle.std.proofs.Common.{◌≡◌, ◌&&◌, ◌==◌, ℕ, Bool, true, List, ◌∷◌, map, refl, sym, ap, subst, ◌∙◌, eq-eqb, nat_cmp, is_eq, Ordering, Less, Equal, Greater, string_bytes, Contains}
+use Rattle.std.proofs.Common.{◌≡◌, ◌==◌, ℕ, Bool, true, List, map, refl, sym, ap, subst, ◌∙◌, eq-eqb, nat_cmp, is_eq, Ordering, Less, Equal, Greater, string_bytes, Contains}
 use Rattle.std.specs.List.{dedup}
 use Rattle.std.specs.List.Sorted.{IsSorted, IsPermutation}
 use Rattle.std.specs.Ordering.{ordering_then, eq_by_cmp}

@@ -1,5 +1,5 @@
 -- Tests that columns equal parameters: SQL's equality of two numbers or two texts is theirs.
-use Rattle.std.proofs.Common.{◌≡◌, ℕ, ℤ, Bool, true, false, is_eq, int_cmp, nat_cmp, List, [], ◌∷◌, refl, sym, ap, subst, ◌∙◌, ◌&&◌}
+use Rattle.std.proofs.Common.{◌≡◌, ℕ, ℤ, Bool, true, is_eq, int_cmp, nat_cmp, List, [], ◌∷◌, refl, sym, ap, subst, ◌∙◌}
 use Rattle.std.specs.List.{list_all}
 use Rattle.std.specs.Cmp.Lexicographic.{slice_cmp}
 use Rattle.sqlite_value.specs.declared.value.Value.{Value}

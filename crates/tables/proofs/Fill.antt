@@ -35,7 +35,7 @@ use Rattle.tables.specs.Schema.{schema_two, part_profile, format}
 use Rattle.tables.specs.Databases.{chosen, dump_tests, profile_shown, version_row, Holds, AreNumbered, IsOrdered}
 use Rattle.tables.specs.TableTrees.{format_tree, part_profile_tree, slot_tree}
 use Rattle.tables.proofs.Inserts.{cast_null, cast_int}
-use Rattle.tables.proofs.Insert.{went, same_value, concluded, plain_mode}
+use Rattle.tables.proofs.Insert.{went, same_value, concluded, plain_mode, no_action}
 use Rattle.tables.proofs.Puts.{ordered_all}
 use Rattle.tables.proofs.Select.{one_table, collated_table, answers, passing}
 use Rattle.tables.proofs.Batches.{IsSilent, from_batch}
@@ -71,12 +71,7 @@ rise_quiet : IsPlain (understood schema_two set_version) × IsSilent (understood
 unfolding understood everything listing_schema
 rise_quiet = ((refl, refl), (refl, refl))
 
--- nothing refers to either table
-unreferred_profiles : (news : List Row) → works schema_two Enforced 0 22 [] news ≡ []
-unfolding same_name everything
-unreferred_profiles [] = refl
-unreferred_profiles (r ∷ rs) = rw (eqb-suc-zero (length rs)) refl
-
+-- nothing refers to the table
 unreferred_format : (olds news : List Row) → works schema_two Enforced 0 0 olds news ≡ []
 unfolding same_name everything
 unreferred_format olds [] = refl
@@ -104,7 +99,7 @@ filled_by limit db w h =
     let counter = same_value rest.1 in
     let written = went rest.2 in
     let counted = went written.2 in
-    let applies = one_step schema_two Enforced db written.0 (edit_of db part_profile [] Chosen 0 given.0) (unreferred_profiles (news_of db given.0)) written.1 in
+    let applies = one_step schema_two Enforced db written.0 (edit_of db part_profile [] Chosen 0 given.0) (no_action schema_two Enforced 0 part_profile_tree (news_of db given.0)) written.1 in
     let trees : w.trees ≡ written.0 = ap (λ (it : Written). it.trees) (same_value counted.2) ∙ same_value counted.1 in
     (given.0, chose, subst (Applies schema_two Enforced db (edit_of db part_profile [] Chosen 0 given.0)) (sym trees) applies)
 

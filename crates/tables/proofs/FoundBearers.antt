@@ -1,9 +1,7 @@
 -- The bearers of a key, as they are selected.
 use Rattle.std.proofs.Common.{◌≡◌, ◌⊎◌, inl, inr, ℕ, ℤ, true, List, [], ◌∷◌, ◌++◌, ◌+◌, None, length, map, refl, sym, ap, subst, ◌∙◌, ◌↔◌, Contains, Equal, string_bytes}
 use Rattle.std.specs.List.{list_all, range_with_len}
-use Rattle.sqlite.specs.Listing.{understood}
 use Rattle.sqlite.specs.State.{State as Store, Shown}
-use Rattle.sqlite_tied.specs.Compute.{everything}
 use Rattle.sqlite_value.specs.Order.{Row, column}
 use Rattle.sqlite_value.specs.declared.value.Value.TheVariants.{Int, Text}
 use Rattle.sqlite_sql.specs.Term.{holds}
@@ -29,23 +27,18 @@ use Rattle.machine.specs.State.{State}
 use Rattle.tables.specs.Stands.{StandsFor}
 use Rattle.machine.specs.Selections.{BearerFound, Bears, FindsBearers, bearer_found, bearer_row, bearer_found_cmp}
 use Rattle.machine.specs.declared.selections.FoundBearer.{FoundBearer}
-use Rattle.tables.specs.Steps.SelectionTexts.{select_bearers}
-use Rattle.tables.specs.Steps.Selected.{AreRead, IsQuery}
+use Rattle.tables.specs.declared.bearers.TheConstants.{SELECT_BEARERS_OF_KEY}
+use Rattle.tables.specs.Steps.Selected.{AreRead}
 use Rattle.tables.specs.Steps.DumpEntries.{Entries, entry_values}
 use Rattle.tables.specs.Steps.Known.{IsKnown, IsMore, MoreValue, more_values}
 use Rattle.tables.proofs.DumpEntries.{typed, held, in_dump, rows_of, listed_are}
 use Rattle.tables.proofs.Equalities.{same_if, if_same}
 use Rattle.tables.proofs.FoundMarks.{one_kind}
 use Rattle.tables.proofs.FoundSlots.{one_slot}
-use Rattle.tables.proofs.Joined.{joined, of_line, of_slot, of_key, mores, slots, shows, each_joins, all_joins, answer_of, select_bearers_plain}
+use Rattle.tables.proofs.Joined.{joined, of_line, of_slot, of_key, mores, slots, shows, each_joins, all_joins, answer_of}
 use Rattle.tables.proofs.Keeping.{same_some, from_map, to_map, both}
 use Rattle.tables.proofs.LineResults.{one_kinds, kinds_columns, of_kind, one_known, nothing, says_none, are as more_are, is_owned as more_owned}
 use Rattle.tables.proofs.Reading.{rows_are}
-use Rattle.tables.proofs.Silent.{silent}
-
-pub select_bearers_reads : IsQuery select_bearers
-unfolding understood everything
-select_bearers_reads = record { plain = select_bearers_plain.0; silent = silent select_bearers (λ schema base. refl) }
 
 -- what a row of `more`, or none, has in the columns of its kinds
 abbrev columns_of : Row → Row
@@ -188,7 +181,7 @@ module _ (key : List ℕ) (db : Trees) (m : State) (s : StandsFor db m) where
         subst (Has rows) (shown_is e row.0 q more.0 (more_is e row.0 q _ refl more.0 more.1) refl)
         (all_joins params read_from rows a (row_of row.0 e) q more.0 (record { bearer = row.1; slot = not_null (of_dump e row.0) q (slot_there e row.0); more = more.1; passes = passes }))
 
-pub bearers_told : (key : List ℕ) (m : State) (old new : Store) (rows : List Row) (xs : List FoundBearer) → StandsFor old.now.trees m → old.now.schema ≡ schema_two → Shown select_bearers (Text key ∷ []) old new rows → AreRead told_columns rows xs
+pub bearers_told : (key : List ℕ) (m : State) (old new : Store) (rows : List Row) (xs : List FoundBearer) → StandsFor old.now.trees m → old.now.schema ≡ schema_two → Shown SELECT_BEARERS_OF_KEY.now (Text key ∷ []) old new rows → AreRead told_columns rows xs
     → (v : BearerFound) → Contains (map bearer_found xs) v ↔ Bears m key v
 bearers_told key m old new rows xs s has shown read v =
     let db = old.now.trees in

@@ -1,13 +1,11 @@
 -- Whether a dump has a document, as it is selected.
-use Rattle.std.proofs.Common.{◌≡◌, inl, ℤ, ℕ, List, [], ◌∷◌, Option, Some, None, is_some, codes, false, refl, ap, subst, ◌∙◌, ◌↔◌, IsTrue}
-use Rattle.sqlite.specs.Listing.{understood, reads_listing}
+use Rattle.std.proofs.Common.{◌≡◌, inl, ℤ, ℕ, List, [], ◌∷◌, Option, Some, None, is_some, codes, refl, ap, subst, ◌∙◌, ◌↔◌, IsTrue}
+use Rattle.sqlite.specs.Listing.{understood}
 use Rattle.sqlite.specs.State.{State as Store, Shown}
-use Rattle.sqlite.proofs.Callers.{IsPlain, command_of}
 use Rattle.sqlite_tied.specs.Compute.{everything}
 use Rattle.sqlite_value.specs.Order.{Row}
 use Rattle.sqlite_value.specs.declared.value.Value.TheVariants.{Int, Text}
 use Rattle.sqlite_sql.specs.Term.{col}
-use Rattle.sqlite_schema.specs.declared.command.Command.TheVariants.{Select}
 use Rattle.sqlite_trees.specs.Tree.{Trees}
 use Rattle.sqlite_rules.specs.Lists.{Has}
 use Rattle.dump.specs.Places.{HasDocument}
@@ -19,26 +17,17 @@ use Rattle.tables.specs.Columns.{dump_rows, document_columns}
 use Rattle.tables.specs.Contents.{owned, slot_row}
 use Rattle.machine.specs.State.{State}
 use Rattle.tables.specs.Stands.{StandsFor}
-use Rattle.tables.specs.Steps.SelectionTexts.{select_document}
-use Rattle.tables.specs.Steps.Selected.{IsFirstRead, IsQuery, ShowsOne, equals}
+use Rattle.tables.specs.declared.documents.TheConstants.{SELECT_DOCUMENT}
+use Rattle.tables.specs.Steps.Selected.{IsFirstRead, ShowsOne, equals}
 use Rattle.tables.specs.Steps.DumpEntries.{Entries, entry_values, ShowsOneOf}
 use Rattle.tables.specs.TableTrees.{slot_tree}
 use Rattle.tables.proofs.DumpEntries.{typed, shows_one_of, listed_are}
-use Rattle.tables.proofs.Select.{one_table}
+use Rattle.tables.proofs.Select.{IsSelect, one_table}
 use Rattle.tables.proofs.Selecting.{IsSelection, shows_one}
-use Rattle.tables.proofs.Silent.{silent}
 
-select_document_is : command_of (understood schema_two select_document) ≡ Select (record { lets = []; body = one_table 5 (equals ((1, 0) ∷ (2, 1) ∷ [])) (col 1 1 ∷ []) }) (codes "slot" ∷ [])
+pub select_document_is : IsSelect schema_two SELECT_DOCUMENT.now (one_table 5 (equals ((1, 0) ∷ (2, 1) ∷ [])) (col 1 1 ∷ [])) (codes "slot" ∷ [])
 unfolding understood everything
-select_document_is = refl
-
-pub select_document_plain : IsPlain (understood schema_two select_document) × (reads_listing schema_two select_document ≡ false)
-unfolding understood everything
-select_document_plain = ((refl, refl), refl)
-
-pub select_document_reads : IsQuery select_document
-unfolding understood everything
-select_document_reads = record { plain = select_document_plain.0; silent = silent select_document (λ schema base. refl) }
+select_document_is = record { is = refl; plain = (refl, refl); unlisted = refl; silent = λ schema base. refl }
 
 abbrev IsDocument : DumpValue → List ℕ → Type 0
 IsDocument dump uri = HasDocument dump.elements uri
@@ -60,13 +49,12 @@ module _ (uri : List ℕ) where
     abbrev IsWanted : ℤ → Entries IsDocument db m → Type 0
     IsWanted at e = (e.0.slot ≡ id) × HasUri e.0.value
 
-    selection : IsSelection (entry_values document_columns IsDocument db m) (λ at e. slot_columns e.0.slot) IsWanted select_document (Int id ∷ Text uri ∷ []) 5
+    selection : IsSelection (entry_values document_columns IsDocument db m) (λ at e. slot_columns e.0.slot) IsWanted SELECT_DOCUMENT.now (Int id ∷ Text uri ∷ []) 5
     selection = record {
       pairs = (1, 0) ∷ (2, 1) ∷ [];
       terms = col 1 1 ∷ [];
       names = codes "slot" ∷ [];
       is = select_document_is;
-      plain = select_document_plain;
       own = λ db. refl;
       shows = λ at e. refl;
       alike = λ at e. (tt, (tt, tt));
@@ -85,11 +73,11 @@ module _ (uri : List ℕ) where
   says d id (Some n) one = ((λ yes. subst (HasDocument d.elements) one.2 one.1), (λ h. refl))
 
   pub document_found : (m : State) (id : ℤ) (project : List ℕ) (dump : DumpValue) (old new : Store) (rows : List Row) (found : Option ℤ) → StandsFor old.now.trees m → old.now.schema ≡ schema_two → Has (old.now.trees slot_tree) (slot_row id project Dump)
-      → m.dump project ≡ Some dump → Shown select_document (Int id ∷ Text uri ∷ []) old new rows → IsFirstRead slot_columns rows found → IsTrue (is_some found) ↔ HasDocument dump.elements uri
+      → m.dump project ≡ Some dump → Shown SELECT_DOCUMENT.now (Int id ∷ Text uri ∷ []) old new rows → IsFirstRead slot_columns rows found → IsTrue (is_some found) ↔ HasDocument dump.elements uri
   unfolding selection
   document_found m id project dump old new rows found s schema slot has shown read =
       let db = old.now.trees in
       says dump id found (shows_one_of db m s IsDocument document_columns 5 is_owned are (λ tags. refl) project dump id slot has HasUri (λ e. slot_columns id) slot_columns found
       (shows_slot db m id found
-      (shows_one (entry_values document_columns IsDocument db m) (λ at e. slot_columns e.0.slot) (IsWanted db m id) slot_columns select_document (Int id ∷ Text uri ∷ []) 5 (selection db m id) (λ x. refl) old new rows schema
+      (shows_one (entry_values document_columns IsDocument db m) (λ at e. slot_columns e.0.slot) (IsWanted db m id) slot_columns SELECT_DOCUMENT.now (Int id ∷ Text uri ∷ []) 5 (selection db m id) (λ x. refl) old new rows schema
       (typed db m s IsDocument document_columns 5 is_owned are (λ tags. refl)) shown found read)))

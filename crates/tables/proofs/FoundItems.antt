@@ -1,19 +1,17 @@
 -- The items of a result, as they are selected.
-use Rattle.std.proofs.Common.{◌≡◌, inl, inr, ℕ, ℤ, Bool, true, ◌&&◌, List, [], ◌∷◌, map, Some, None, codes, false, refl, sym, ap, subst, ◌∙◌, ◌↔◌, Contains, arith}
+use Rattle.std.proofs.Common.{◌≡◌, inl, inr, ℕ, ℤ, Bool, true, ◌&&◌, List, [], ◌∷◌, map, Some, None, codes, refl, sym, ap, subst, ◌∙◌, ◌↔◌, Contains, arith}
 use Rattle.std.specs.List.{AllByRecursion}
 use Rattle.std.specs.Cmp.{IsTotalOrder, on_total}
 use Rattle.std.specs.Cmp.Lexicographic.{pointwise}
 use Rattle.std.specs.Prelude.{nat_eq}
 use Rattle.std.specs.Rc.{rc_str_bytes}
 use Rattle.std.specs.Ordering.{eq_by_cmp}
-use Rattle.sqlite.specs.Listing.{understood, reads_listing}
+use Rattle.sqlite.specs.Listing.{understood}
 use Rattle.sqlite.specs.State.{State as Store, Shown}
-use Rattle.sqlite.proofs.Callers.{IsPlain, command_of}
 use Rattle.sqlite_tied.specs.Compute.{everything}
 use Rattle.sqlite_value.specs.Order.{Row}
 use Rattle.sqlite_value.specs.declared.value.Value.TheVariants.{Int, Text}
 use Rattle.sqlite_sql.specs.Term.{col}
-use Rattle.sqlite_schema.specs.declared.command.Command.TheVariants.{Select}
 use Rattle.sqlite_trees.specs.Tree.{Trees}
 use Rattle.sqlite_rules.specs.Lists.{Has}
 use Rattle.positions.specs.Position.{PositionValue, IsPosition, packed_of}
@@ -36,27 +34,18 @@ use Rattle.machine.specs.State.{State}
 use Rattle.tables.specs.Stands.{StandsFor}
 use Rattle.machine.specs.Selections.{HasItem, FindsItems, item_found}
 use Rattle.machine.specs.declared.selections.FoundItem.{FoundItem}
-use Rattle.tables.specs.Steps.SelectionTexts.{select_items}
-use Rattle.tables.specs.Steps.Selected.{AreRead, IsQuery, equals}
+use Rattle.tables.specs.declared.items.TheConstants.{SELECT_ITEMS}
+use Rattle.tables.specs.Steps.Selected.{AreRead, equals}
 use Rattle.tables.specs.Steps.DumpEntries.{Entries, entry_values, SelectsOf}
 use Rattle.tables.specs.TableTrees.{slot_tree}
 use Rattle.tables.proofs.DumpEntries.{rows_of, typed, selects_of, listed_are, dump_slot, are_values, empty_listing}
 use Rattle.tables.proofs.Keeping.{same_some, none_is_some}
-use Rattle.tables.proofs.Select.{one_table}
+use Rattle.tables.proofs.Select.{IsSelect, one_table}
 use Rattle.tables.proofs.Selecting.{IsSelection, selects_typed}
-use Rattle.tables.proofs.Silent.{silent}
 
-select_items_is : command_of (understood schema_two select_items) ≡ Select (record { lets = []; body = one_table 9 (equals ((1, 0) ∷ (2, 1) ∷ (3, 2) ∷ [])) (col 1 4 ∷ col 1 5 ∷ col 1 6 ∷ []) }) (codes "uri" ∷ codes "first" ∷ codes "last" ∷ [])
+pub select_items_is : IsSelect schema_two SELECT_ITEMS.now (one_table 9 (equals ((1, 0) ∷ (2, 1) ∷ (3, 2) ∷ [])) (col 1 4 ∷ col 1 5 ∷ col 1 6 ∷ [])) (codes "uri" ∷ codes "first" ∷ codes "last" ∷ [])
 unfolding understood everything
-select_items_is = refl
-
-pub select_items_plain : IsPlain (understood schema_two select_items) × (reads_listing schema_two select_items ≡ false)
-unfolding understood everything
-select_items_plain = ((refl, refl), refl)
-
-pub select_items_reads : IsQuery select_items
-unfolding understood everything
-select_items_reads = record { plain = select_items_plain.0; silent = silent select_items (λ schema base. refl) }
+select_items_is = record { is = refl; plain = (refl, refl); unlisted = refl; silent = λ schema base. refl }
 
 -- ---- the order
 
@@ -131,13 +120,12 @@ module _ (result : ℕ) (role : Role) where
     abbrev IsWanted : ℤ → Entries IsItem db m → Type 0
     IsWanted at e = (e.0.slot ≡ id) × IsOf e.0.value
 
-    selection : IsSelection (entry_values item_columns IsItem db m) (λ at e. item_shown e.0.value) IsWanted select_items (Int id ∷ number result ∷ number (role_index role) ∷ []) 9
+    selection : IsSelection (entry_values item_columns IsItem db m) (λ at e. item_shown e.0.value) IsWanted SELECT_ITEMS.now (Int id ∷ number result ∷ number (role_index role) ∷ []) 9
     selection = record {
       pairs = (1, 0) ∷ (2, 1) ∷ (3, 2) ∷ [];
       terms = col 1 4 ∷ col 1 5 ∷ col 1 6 ∷ [];
       names = codes "uri" ∷ codes "first" ∷ codes "last" ∷ [];
       is = select_items_is;
-      plain = select_items_plain;
       own = λ db. refl;
       shows = λ at e. refl;
       alike = λ at e. (tt, (tt, (tt, tt)));
@@ -166,14 +154,14 @@ module _ (result : ℕ) (role : Role) where
       )
 
   pub items_found : (m : State) (id : ℤ) (project : List ℕ) (old new : Store) (rows : List Row) (found listed : List FoundItem) → StandsFor old.now.trees m → old.now.schema ≡ schema_two → Has (old.now.trees slot_tree) (slot_row id project Dump)
-      → Shown select_items (Int id ∷ number result ∷ number (role_index role) ∷ []) old new rows → AreRead found_columns rows found → AllByRecursion IsSound found → IsListing place_cmp (Contains (map item_found found)) (map item_found listed) → FindsItems m project result role (map item_found listed)
+      → Shown SELECT_ITEMS.now (Int id ∷ number result ∷ number (role_index role) ∷ []) old new rows → AreRead found_columns rows found → AllByRecursion IsSound found → IsListing place_cmp (Contains (map item_found found)) (map item_found listed) → FindsItems m project result role (map item_found listed)
   unfolding selection
   items_found m id project old new rows found listed s schema slot shown read sound list =
       let db = old.now.trees in
       let dump = dump_slot db m s project id slot in
       let numbered : HasPositions m = (λ project dump r span has at. (rows_of db m s project dump has).2.located r span at) in
       same_listing place_cmp _ _ (map item_found listed) (finds m project dump.0 numbered dump.1 found sound (selects_of db m s IsItem item_columns 9 is_owned are (λ tags. refl) project dump.0 id slot dump.1 IsOf item_shown (map found_columns found)
-      (selects_typed (entry_values item_columns IsItem db m) (λ at e. item_shown e.0.value) (IsWanted db m id) found_columns select_items (Int id ∷ number result ∷ number (role_index role) ∷ []) 9 (selection db m id) (λ x. refl) old new rows schema
+      (selects_typed (entry_values item_columns IsItem db m) (λ at e. item_shown e.0.value) (IsWanted db m id) found_columns SELECT_ITEMS.now (Int id ∷ number result ∷ number (role_index role) ∷ []) 9 (selection db m id) (λ x. refl) old new rows schema
       (typed db m s IsItem item_columns 9 is_owned are (λ tags. refl)) shown found read))) list
 
 pub no_items : (m : State) (project : List ℕ) (result : ℕ) (role : Role) → m.dump project ≡ None → FindsItems m project result role []

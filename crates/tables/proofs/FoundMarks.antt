@@ -1,18 +1,16 @@
 -- The marks of a range, as they are selected.
-use Rattle.std.proofs.Common.{◌≡◌, inl, inr, ℕ, ℤ, Bool, true, ◌&&◌, List, [], ◌∷◌, map, Some, None, codes, false, refl, sym, ap, subst, ◌∙◌, string_bytes, ◌↔◌, Contains}
+use Rattle.std.proofs.Common.{◌≡◌, inl, inr, ℕ, ℤ, Bool, true, ◌&&◌, List, [], ◌∷◌, map, Some, None, codes, refl, sym, ap, subst, ◌∙◌, string_bytes, ◌↔◌, Contains}
 use Rattle.std.specs.List.{AllByRecursion}
 use Rattle.std.specs.Cmp.{IsTotalOrder, then_total, on_total, nat_cmp_total}
 use Rattle.std.specs.Cmp.Lexicographic.{on_texts}
 use Rattle.std.specs.String.{string_eq}
 use Rattle.std.specs.Ordering.{eq_by_cmp}
-use Rattle.sqlite.specs.Listing.{understood, reads_listing}
+use Rattle.sqlite.specs.Listing.{understood}
 use Rattle.sqlite.specs.State.{State as Store, Shown}
-use Rattle.sqlite.proofs.Callers.{IsPlain, command_of}
 use Rattle.sqlite_tied.specs.Compute.{everything}
 use Rattle.sqlite_value.specs.Order.{Row}
 use Rattle.sqlite_value.specs.declared.value.Value.TheVariants.{Int, Text}
 use Rattle.sqlite_sql.specs.Term.{col}
-use Rattle.sqlite_schema.specs.declared.command.Command.TheVariants.{Select}
 use Rattle.sqlite_trees.specs.Tree.{Trees}
 use Rattle.sqlite_rules.specs.Lists.{Has}
 use Rattle.lsif.specs.contracts.element.MonikerKindPartialEq.TheImpl as kind_eq
@@ -31,27 +29,18 @@ use Rattle.machine.specs.State.{State}
 use Rattle.tables.specs.Stands.{StandsFor}
 use Rattle.machine.specs.Selections.{MarkText, HasMark, FindsMarks, mark_text_cmp, mark_found}
 use Rattle.machine.specs.declared.selections.FoundMark.{FoundMark}
-use Rattle.tables.specs.Steps.SelectionTexts.{select_marks}
-use Rattle.tables.specs.Steps.Selected.{AreRead, IsQuery, equals}
+use Rattle.tables.specs.declared.marks.TheConstants.{SELECT_MARKS}
+use Rattle.tables.specs.Steps.Selected.{AreRead, equals}
 use Rattle.tables.specs.Steps.DumpEntries.{Entries, entry_values, SelectsOf}
 use Rattle.tables.specs.TableTrees.{slot_tree}
 use Rattle.tables.proofs.DumpEntries.{typed, selects_of, listed_are, dump_slot, are_values, empty_listing}
 use Rattle.tables.proofs.Keeping.{same_some, none_is_some}
-use Rattle.tables.proofs.Select.{one_table}
+use Rattle.tables.proofs.Select.{IsSelect, one_table}
 use Rattle.tables.proofs.Selecting.{IsSelection, selects_typed}
-use Rattle.tables.proofs.Silent.{silent}
 
-select_marks_is : command_of (understood schema_two select_marks) ≡ Select (record { lets = []; body = one_table 13 (equals ((1, 0) ∷ (2, 1) ∷ [])) (col 1 3 ∷ col 1 4 ∷ []) }) (codes "kind" ∷ codes "keytext" ∷ [])
+pub select_marks_is : IsSelect schema_two SELECT_MARKS.now (one_table 13 (equals ((1, 0) ∷ (2, 1) ∷ [])) (col 1 3 ∷ col 1 4 ∷ [])) (codes "kind" ∷ codes "keytext" ∷ [])
 unfolding understood everything
-select_marks_is = refl
-
-pub select_marks_plain : IsPlain (understood schema_two select_marks) × (reads_listing schema_two select_marks ≡ false)
-unfolding understood everything
-select_marks_plain = ((refl, refl), refl)
-
-pub select_marks_reads : IsQuery select_marks
-unfolding understood everything
-select_marks_reads = record { plain = select_marks_plain.0; silent = silent select_marks (λ schema base. refl) }
+select_marks_is = record { is = refl; plain = (refl, refl); unlisted = refl; silent = λ schema base. refl }
 
 -- ---- the order
 
@@ -106,13 +95,12 @@ module _ (line : ℕ) where
     abbrev IsWanted : ℤ → Entries IsMark db m → Type 0
     IsWanted at e = (e.0.slot ≡ id) × IsAtLine e.0.value
 
-    selection : IsSelection (entry_values mark_columns IsMark db m) (λ at e. mark_shown e.0.value) IsWanted select_marks (Int id ∷ number line ∷ []) 13
+    selection : IsSelection (entry_values mark_columns IsMark db m) (λ at e. mark_shown e.0.value) IsWanted SELECT_MARKS.now (Int id ∷ number line ∷ []) 13
     selection = record {
       pairs = (1, 0) ∷ (2, 1) ∷ [];
       terms = col 1 3 ∷ col 1 4 ∷ [];
       names = codes "kind" ∷ codes "keytext" ∷ [];
       is = select_marks_is;
-      plain = select_marks_plain;
       own = λ db. refl;
       shows = λ at e. refl;
       alike = λ at e. (tt, (tt, tt));
@@ -141,13 +129,13 @@ module _ (line : ℕ) where
       )
 
   pub marks_found : (m : State) (id : ℤ) (project : List ℕ) (old new : Store) (rows : List Row) (found listed : List FoundMark) → StandsFor old.now.trees m → old.now.schema ≡ schema_two → Has (old.now.trees slot_tree) (slot_row id project Dump)
-      → Shown select_marks (Int id ∷ number line ∷ []) old new rows → AreRead found_columns rows found → AllByRecursion (λ (x : FoundMark). Unit {0}) found → IsListing mark_text_cmp (Contains (map mark_found found)) (map mark_found listed) → FindsMarks m project line (map mark_found listed)
+      → Shown SELECT_MARKS.now (Int id ∷ number line ∷ []) old new rows → AreRead found_columns rows found → AllByRecursion (λ (x : FoundMark). Unit {0}) found → IsListing mark_text_cmp (Contains (map mark_found found)) (map mark_found listed) → FindsMarks m project line (map mark_found listed)
   unfolding selection
   marks_found m id project old new rows found listed s schema slot shown read sound list =
       let db = old.now.trees in
       let dump = dump_slot db m s project id slot in
       same_listing mark_text_cmp _ _ (map mark_found listed) (finds m project dump.0 dump.1 found sound (selects_of db m s IsMark mark_columns 13 is_owned are (λ tags. refl) project dump.0 id slot dump.1 IsAtLine mark_shown (map found_columns found)
-      (selects_typed (entry_values mark_columns IsMark db m) (λ at e. mark_shown e.0.value) (IsWanted db m id) found_columns select_marks (Int id ∷ number line ∷ []) 13 (selection db m id) (λ x. refl) old new rows schema
+      (selects_typed (entry_values mark_columns IsMark db m) (λ at e. mark_shown e.0.value) (IsWanted db m id) found_columns SELECT_MARKS.now (Int id ∷ number line ∷ []) 13 (selection db m id) (λ x. refl) old new rows schema
       (typed db m s IsMark mark_columns 13 is_owned are (λ tags. refl)) shown found read))) list
 
 pub no_marks : (m : State) (project : List ℕ) (line : ℕ) → m.dump project ≡ None → FindsMarks m project line []

@@ -1,13 +1,11 @@
 -- The rows of ranges, as they are selected.
-use Rattle.std.proofs.Common.{◌≡◌, inl, inr, ℕ, ℤ, List, [], ◌∷◌, Some, codes, false, refl, sym, ap, ◌∙◌, ◌↔◌}
-use Rattle.sqlite.specs.Listing.{understood, reads_listing}
+use Rattle.std.proofs.Common.{◌≡◌, inl, inr, ℕ, ℤ, List, [], ◌∷◌, Some, codes, refl, sym, ap, ◌∙◌, ◌↔◌}
+use Rattle.sqlite.specs.Listing.{understood}
 use Rattle.sqlite.specs.State.{State as Store, Shown}
-use Rattle.sqlite.proofs.Callers.{IsPlain, command_of}
 use Rattle.sqlite_tied.specs.Compute.{everything}
 use Rattle.sqlite_value.specs.Order.{Row}
 use Rattle.sqlite_value.specs.declared.value.Value.TheVariants.{Int, Text}
 use Rattle.sqlite_sql.specs.Term.{Term, col}
-use Rattle.sqlite_schema.specs.declared.command.Command.TheVariants.{Select}
 use Rattle.sqlite_trees.specs.Tree.{Trees}
 use Rattle.sqlite_rules.specs.Lists.{Has}
 use Rattle.positions.specs.Position.{IsPosition}
@@ -25,16 +23,15 @@ use Rattle.machine.specs.State.{State}
 use Rattle.tables.specs.Stands.{StandsFor}
 use Rattle.tables.specs.declared.range_rows.SlotRange.{SlotRange}
 use Rattle.tables.specs.Steps.Climbs.{IsNamed, TellsRange}
-use Rattle.tables.specs.Steps.SelectionTexts.{select_range}
-use Rattle.tables.specs.Steps.Selected.{IsFirstRead, IsQuery, equals}
+use Rattle.tables.specs.declared.range_rows.TheConstants.{SELECT_RANGE}
+use Rattle.tables.specs.Steps.Selected.{IsFirstRead, equals}
 use Rattle.tables.specs.Steps.DumpEntries.{Entries, entry_values, ShowsOneOf}
 use Rattle.tables.specs.TableTrees.{slot_tree}
 use Rattle.tables.proofs.DumpEntries.{rows_of, typed, shows_one_of, listed_are}
 use Rattle.tables.proofs.FoundItems.{one_position}
 use Rattle.tables.proofs.LineResults.{one_optional}
-use Rattle.tables.proofs.Select.{one_table}
+use Rattle.tables.proofs.Select.{IsSelect, one_table}
 use Rattle.tables.proofs.Selecting.{IsSelection, shows_one}
-use Rattle.tables.proofs.Silent.{silent}
 
 abbrev pub range_terms : List Term
 range_terms = col 1 2 ∷ col 1 4 ∷ col 1 5 ∷ col 1 6 ∷ col 1 7 ∷ col 1 8 ∷ col 1 9 ∷ []
@@ -42,17 +39,9 @@ range_terms = col 1 2 ∷ col 1 4 ∷ col 1 5 ∷ col 1 6 ∷ col 1 7 ∷ col 1 
 abbrev pub range_names : List (List ℕ)
 range_names = codes "line" ∷ codes "first" ∷ codes "last" ∷ codes "parent" ∷ codes "def" ∷ codes "refs" ∷ codes "hover" ∷ []
 
-select_range_is : command_of (understood schema_two select_range) ≡ Select (record { lets = []; body = one_table 7 (equals ((1, 0) ∷ (2, 1) ∷ (3, 2) ∷ [])) range_terms }) range_names
+pub select_range_is : IsSelect schema_two SELECT_RANGE.now (one_table 7 (equals ((1, 0) ∷ (2, 1) ∷ (3, 2) ∷ [])) range_terms) range_names
 unfolding understood everything
-select_range_is = refl
-
-pub select_range_plain : IsPlain (understood schema_two select_range) × (reads_listing schema_two select_range ≡ false)
-unfolding understood everything
-select_range_plain = ((refl, refl), refl)
-
-pub select_range_reads : IsQuery select_range
-unfolding understood everything
-select_range_reads = record { plain = select_range_plain.0; silent = silent select_range (λ schema base. refl) }
+select_range_is = record { is = refl; plain = (refl, refl); unlisted = refl; silent = λ schema base. refl }
 
 -- ---- what is read of a row
 
@@ -109,13 +98,12 @@ module _ (line : ℕ) (uri : List ℕ) where
     abbrev IsWanted : ℤ → Entries IsRange db m → Type 0
     IsWanted at e = (e.0.slot ≡ id) × IsAtLine e.0.value
 
-    selection : IsSelection (entry_values range_columns IsRange db m) (λ at e. range_shown e.0.value) IsWanted select_range (Int id ∷ number line ∷ Text uri ∷ []) 7
+    selection : IsSelection (entry_values range_columns IsRange db m) (λ at e. range_shown e.0.value) IsWanted SELECT_RANGE.now (Int id ∷ number line ∷ Text uri ∷ []) 7
     selection = record {
       pairs = (1, 0) ∷ (2, 1) ∷ (3, 2) ∷ [];
       terms = range_terms;
       names = range_names;
       is = select_range_is;
-      plain = select_range_plain;
       own = λ db. refl;
       shows = λ at e. refl;
       alike = λ at e. (tt, (tt, (tt, tt)));
@@ -127,10 +115,10 @@ module _ (line : ℕ) (uri : List ℕ) where
   named d child x bounded has sound one = (one.0, (one.1, one.2.1), has ∙ ap Some (sym one.2.0), tells x one.0 sound (located d one.0 bounded one.1) one.3)
 
   pub range_found : (m : State) (id : ℤ) (project : List ℕ) (dump : DumpValue) (old new : Store) (rows : List Row) (child x : SlotRange) → StandsFor old.now.trees m → old.now.schema ≡ schema_two → Has (old.now.trees slot_tree) (slot_row id project Dump)
-      → m.dump project ≡ Some dump → child.parent ≡ Some line → IsSound x → Shown select_range (Int id ∷ number line ∷ Text uri ∷ []) old new rows → IsFirstRead found_columns rows (Some x) → IsNamed dump uri child (Some x)
+      → m.dump project ≡ Some dump → child.parent ≡ Some line → IsSound x → Shown SELECT_RANGE.now (Int id ∷ number line ∷ Text uri ∷ []) old new rows → IsFirstRead found_columns rows (Some x) → IsNamed dump uri child (Some x)
   unfolding selection
   range_found m id project dump old new rows child x s schema slot has asked sound shown read =
       let db = old.now.trees in
       named dump child x (numbered db m project dump s has) asked sound (shows_one_of db m s IsRange range_columns 7 is_owned are (λ tags. refl) project dump id slot has IsAtLine range_shown found_columns (Some x)
-      (shows_one (entry_values range_columns IsRange db m) (λ at e. range_shown e.0.value) (IsWanted db m id) found_columns select_range (Int id ∷ number line ∷ Text uri ∷ []) 7 (selection db m id) (λ x. refl) old new rows schema
+      (shows_one (entry_values range_columns IsRange db m) (λ at e. range_shown e.0.value) (IsWanted db m id) found_columns SELECT_RANGE.now (Int id ∷ number line ∷ Text uri ∷ []) 7 (selection db m id) (λ x. refl) old new rows schema
       (typed db m s IsRange range_columns 7 is_owned are (λ tags. refl)) shown (Some x) read))

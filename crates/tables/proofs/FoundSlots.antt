@@ -1,44 +1,34 @@
 -- The slots of parts, as they are selected.
-use Rattle.std.proofs.Common.{◌≡◌, inl, inr, ℕ, ℤ, List, [], ◌∷◌, Option, Some, None, codes, false, refl, sym, ap, subst, ◌∙◌, string_bytes}
+use Rattle.std.proofs.Common.{◌≡◌, inl, inr, ℕ, ℤ, List, [], ◌∷◌, Option, Some, None, codes, refl, sym, ap, subst, ◌∙◌, string_bytes}
 use Rattle.std.specs.declared.string.String.{String}
 use Rattle.std.specs.declared.alloc.Global.{Global}
-use Rattle.sqlite.specs.Listing.{understood, reads_listing}
+use Rattle.sqlite.specs.Listing.{understood}
 use Rattle.sqlite.specs.State.{State, Shown}
-use Rattle.sqlite.proofs.Callers.{IsPlain, command_of}
 use Rattle.sqlite_tied.specs.Compute.{everything}
 use Rattle.sqlite_value.specs.Order.{Row}
 use Rattle.sqlite_value.specs.declared.value.Value.TheVariants.{Null, Int, Text}
 use Rattle.sqlite_value.proofs.OrderLemmas.{value_cmp-Int}
 use Rattle.sqlite_sql.specs.Term.{col}
-use Rattle.sqlite_schema.specs.declared.command.Command.TheVariants.{Select}
 use Rattle.sqlite_trees.specs.Tree.{Trees}
 use Rattle.sqlite_rules.specs.Lists.{Has}
 use Rattle.sqlite_rules.proofs.PlaceLemmas.{tied_same}
 use Rattle.tables.specs.Schema.{schema_two, slot}
 use Rattle.tables.specs.Contents.{Contents, Replies, Keeps, slot_row}
-use Rattle.tables.specs.Steps.SelectionTexts.{select_slot, select_project}
-use Rattle.tables.specs.Steps.Selected.{AreTyped, IsFirstRead, IsQuery, ShowsOne, equals}
+use Rattle.tables.specs.declared.parts.TheConstants.{SELECT_SLOT}
+use Rattle.tables.specs.declared.bearers.TheConstants.{SELECT_PROJECT}
+use Rattle.tables.specs.Steps.Selected.{AreTyped, IsFirstRead, ShowsOne, equals}
 use Rattle.tables.specs.Steps.Slots.{IsSlotOf}
 use Rattle.tables.specs.Parts.{part_number}
 use Rattle.tables.specs.declared.slots.Part.{Part}
 use Rattle.tables.specs.TableTrees.{slot_tree}
 use Rattle.tables.proofs.Cascade.{equal_is}
 use Rattle.tables.proofs.Keeping.{none_is_some, same_some, slot_is, number_is, same_int_itself}
-use Rattle.tables.proofs.Select.{one_table}
+use Rattle.tables.proofs.Select.{IsSelect, one_table}
 use Rattle.tables.proofs.Selecting.{IsSelection, shows_one}
-use Rattle.tables.proofs.Silent.{silent}
 
-pub select_slot_is : command_of (understood schema_two select_slot) ≡ Select (record { lets = []; body = one_table 1 (equals ((2, 0) ∷ (3, 1) ∷ [])) (col 1 0 ∷ []) }) (codes "id" ∷ [])
+pub select_slot_is : IsSelect schema_two SELECT_SLOT.now (one_table 1 (equals ((2, 0) ∷ (3, 1) ∷ [])) (col 1 0 ∷ [])) (codes "id" ∷ [])
 unfolding understood everything
-select_slot_is = refl
-
-pub select_slot_plain : IsPlain (understood schema_two select_slot) × (reads_listing schema_two select_slot ≡ false)
-unfolding understood everything
-select_slot_plain = ((refl, refl), refl)
-
-pub select_slot_reads : IsQuery select_slot
-unfolding understood everything
-select_slot_reads = record { plain = select_slot_plain.0; silent = silent select_slot (λ schema base. refl) }
+select_slot_is = record { is = refl; plain = (refl, refl); unlisted = refl; silent = λ schema base. refl }
 
 pub record SlotEntry : Type 0 where
   pub project : List ℕ
@@ -73,13 +63,12 @@ module _ (project : List ℕ) (part : Part) where
   abbrev IsOfPart : ℤ → SlotEntry → Type 0
   IsOfPart id e = (e.project ≡ project) × (e.part ≡ part)
 
-  selection : IsSelection slot_values Ided IsOfPart select_slot (Text project ∷ Int (part_number part) ∷ []) 1
+  selection : IsSelection slot_values Ided IsOfPart SELECT_SLOT.now (Text project ∷ Int (part_number part) ∷ []) 1
   selection = record {
     pairs = (2, 0) ∷ (3, 1) ∷ [];
     terms = col 1 0 ∷ [];
     names = codes "id" ∷ [];
     is = select_slot_is;
-    plain = select_slot_plain;
     own = λ db. refl;
     shows = λ id e. refl;
     alike = λ id e. (tt, (tt, tt));
@@ -100,26 +89,18 @@ module _ (project : List ℕ) (part : Part) where
       subst (λ (i : ℤ). Has (db slot_tree) (slot_row i project part)) same
       (subst (λ (k : Part). Has (db slot_tree) (slot_row one.1.0.0 project k)) one.1.1.1 (subst (λ (p : List ℕ). Has (db slot_tree) (slot_row one.1.0.0 p one.0.part)) one.1.1.0 one.1.0.1))
 
-  pub slot_found : (old new : State) (rows : List Row) (found : Option ℤ) (parts : Contents) (replies : Replies) → Keeps old.now.trees parts replies → old.now.schema ≡ schema_two → Shown select_slot (Text project ∷ Int (part_number part) ∷ []) old new rows → IsFirstRead id_of rows found
+  pub slot_found : (old new : State) (rows : List Row) (found : Option ℤ) (parts : Contents) (replies : Replies) → Keeps old.now.trees parts replies → old.now.schema ≡ schema_two → Shown SELECT_SLOT.now (Text project ∷ Int (part_number part) ∷ []) old new rows → IsFirstRead id_of rows found
       → IsSlotOf old.now.trees parts project part found
   unfolding selection
   slot_found old new rows found parts replies is has shown read =
       is_slot old.now.trees parts replies is found
-      (shows_one slot_values Ided IsOfPart id_of select_slot (Text project ∷ Int (part_number part) ∷ []) 1 selection (λ x. refl) old new rows has (typed_slots old.now.trees parts replies is) shown found read)
+      (shows_one slot_values Ided IsOfPart id_of SELECT_SLOT.now (Text project ∷ Int (part_number part) ∷ []) 1 selection (λ x. refl) old new rows has (typed_slots old.now.trees parts replies is) shown found read)
 
 -- ---- the project of a slot
 
-select_project_is : command_of (understood schema_two select_project) ≡ Select (record { lets = []; body = one_table 1 (equals ((0, 0) ∷ [])) (col 1 2 ∷ []) }) (codes "project" ∷ [])
+pub select_project_is : IsSelect schema_two SELECT_PROJECT.now (one_table 1 (equals ((0, 0) ∷ [])) (col 1 2 ∷ [])) (codes "project" ∷ [])
 unfolding understood everything
-select_project_is = refl
-
-pub select_project_plain : IsPlain (understood schema_two select_project) × (reads_listing schema_two select_project ≡ false)
-unfolding understood everything
-select_project_plain = ((refl, refl), refl)
-
-pub select_project_reads : IsQuery select_project
-unfolding understood everything
-select_project_reads = record { plain = select_project_plain.0; silent = silent select_project (λ schema base. refl) }
+select_project_is = record { is = refl; plain = (refl, refl); unlisted = refl; silent = λ schema base. refl }
 
 abbrev project_columns : String Global → Row
 project_columns s = Text (string_bytes s) ∷ []
@@ -131,13 +112,12 @@ module _ (id : ℤ) where
   abbrev HasId : ℤ → SlotEntry → Type 0
   HasId at e = at ≡ id
 
-  by_id : IsSelection slot_values project_shown HasId select_project (Int id ∷ []) 1
+  by_id : IsSelection slot_values project_shown HasId SELECT_PROJECT.now (Int id ∷ []) 1
   by_id = record {
     pairs = (0, 0) ∷ [];
     terms = col 1 2 ∷ [];
     names = codes "project" ∷ [];
     is = select_project_is;
-    plain = select_project_plain;
     own = λ db. refl;
     shows = λ at e. refl;
     alike = λ at e. (tt, tt);
@@ -157,8 +137,8 @@ module _ (id : ℤ) where
       ap (λ (t : String Global). string_bytes t) (sym text_is) ∙ (read ∙ same)
 
   pub project_found : (old new : State) (rows : List Row) (found : Option (String Global)) (text : String Global) (parts : Contents) (replies : Replies) → found ≡ Some text → Keeps old.now.trees parts replies → old.now.schema ≡ schema_two
-      → Shown select_project (Int id ∷ []) old new rows → IsFirstRead project_columns rows found → (project : List ℕ) (part : Part) → Has (old.now.trees slot_tree) (slot_row id project part) → string_bytes text ≡ project
+      → Shown SELECT_PROJECT.now (Int id ∷ []) old new rows → IsFirstRead project_columns rows found → (project : List ℕ) (part : Part) → Has (old.now.trees slot_tree) (slot_row id project part) → string_bytes text ≡ project
   unfolding by_id
   project_found old new rows found text parts replies e is has shown read project part slot =
       is_project old.now.trees parts replies is project part slot found text e
-      (shows_one slot_values project_shown HasId project_columns select_project (Int id ∷ []) 1 by_id (λ x. refl) old new rows has (typed_slots old.now.trees parts replies is) shown found read)
+      (shows_one slot_values project_shown HasId project_columns SELECT_PROJECT.now (Int id ∷ []) 1 by_id (λ x. refl) old new rows has (typed_slots old.now.trees parts replies is) shown found read)

@@ -1,13 +1,11 @@
 -- Tags, as they are selected.
-use Rattle.std.proofs.Common.{◌≡◌, inl, inr, ℕ, ℤ, List, [], ◌∷◌, map, Some, codes, false, refl, sym, ap, subst, ◌∙◌, Contains}
-use Rattle.sqlite.specs.Listing.{understood, reads_listing}
+use Rattle.std.proofs.Common.{◌≡◌, inl, inr, ℕ, ℤ, List, [], ◌∷◌, map, Some, codes, refl, sym, ap, subst, ◌∙◌, Contains}
+use Rattle.sqlite.specs.Listing.{understood}
 use Rattle.sqlite.specs.State.{State as Store, Shown}
-use Rattle.sqlite.proofs.Callers.{IsPlain, command_of}
 use Rattle.sqlite_tied.specs.Compute.{everything}
 use Rattle.sqlite_value.specs.Order.{Row}
 use Rattle.sqlite_value.specs.declared.value.Value.TheVariants.{Int, Text}
 use Rattle.sqlite_sql.specs.Term.{Term, col}
-use Rattle.sqlite_schema.specs.declared.command.Command.TheVariants.{Select}
 use Rattle.sqlite_trees.specs.Tree.{Trees}
 use Rattle.sqlite_rules.specs.Lists.{Has}
 use Rattle.sqlite_rules.proofs.ListLemmas.{has_contained, contains_had}
@@ -22,16 +20,15 @@ use Rattle.machine.specs.State.{State}
 use Rattle.tables.specs.Stands.{StandsFor}
 use Rattle.machine.specs.FoundTags.{FoundTag}
 use Rattle.tables.specs.declared.found_tags.TagRow.{TagRow}
-use Rattle.tables.specs.Steps.SelectionTexts.{select_named}
-use Rattle.tables.specs.Steps.Selected.{AreRead, AreTyped, IsQuery, Selects, equals}
+use Rattle.tables.specs.declared.names.TheConstants.{SELECT_TAGS_OF_NAME}
+use Rattle.tables.specs.Steps.Selected.{AreRead, AreTyped, Selects, equals}
 use Rattle.tables.specs.Steps.TagRows.{TellsTag, TellNamed, tag_row_columns}
 use Rattle.tables.specs.TableTrees.{slot_tree, tag_tree}
 use Rattle.tables.proofs.DumpEntries.{dump_of, tags_of, rows_of_tags}
 use Rattle.tables.proofs.Entries.{typed_as}
 use Rattle.tables.proofs.Keeping.{from_map, to_map, table_of, which_part}
-use Rattle.tables.proofs.Select.{one_table}
+use Rattle.tables.proofs.Select.{IsSelect, one_table}
 use Rattle.tables.proofs.Selecting.{IsSelection, selects_typed, all_of, of_all}
-use Rattle.tables.proofs.Silent.{silent}
 
 abbrev pub tag_terms : List Term
 tag_terms = col 1 1 ∷ col 1 2 ∷ col 1 3 ∷ col 1 4 ∷ col 1 5 ∷ col 1 6 ∷ col 1 7 ∷ []
@@ -39,17 +36,9 @@ tag_terms = col 1 1 ∷ col 1 2 ∷ col 1 3 ∷ col 1 4 ∷ col 1 5 ∷ col 1 6 
 abbrev pub tag_names : List (List ℕ)
 tag_names = codes "slot" ∷ codes "line" ∷ codes "name" ∷ codes "file" ∷ codes "address" ∷ codes "kind" ∷ codes "fields" ∷ []
 
-select_named_is : command_of (understood schema_two select_named) ≡ Select (record { lets = []; body = one_table 17 (equals ((3, 0) ∷ [])) tag_terms }) tag_names
+pub select_named_is : IsSelect schema_two SELECT_TAGS_OF_NAME.now (one_table 17 (equals ((3, 0) ∷ [])) tag_terms) tag_names
 unfolding understood everything
-select_named_is = refl
-
-pub select_named_plain : IsPlain (understood schema_two select_named) × (reads_listing schema_two select_named ≡ false)
-unfolding understood everything
-select_named_plain = ((refl, refl), refl)
-
-pub select_named_reads : IsQuery select_named
-unfolding understood everything
-select_named_reads = record { plain = select_named_plain.0; silent = silent select_named (λ schema base. refl) }
+select_named_is = record { is = refl; plain = (refl, refl); unlisted = refl; silent = λ schema base. refl }
 
 -- ---- the rows of the table
 
@@ -140,13 +129,12 @@ module _ (name : List ℕ) where
     abbrev HasName : ℤ → TagEntries db m → Type 0
     HasName at e = e.0.found.tag.name ≡ name
 
-    selection : IsSelection (entry_row db m) (λ at e. entry_row db m e) HasName select_named (Text name ∷ []) 17
+    selection : IsSelection (entry_row db m) (λ at e. entry_row db m e) HasName SELECT_TAGS_OF_NAME.now (Text name ∷ []) 17
     selection = record {
       pairs = (3, 0) ∷ [];
       terms = tag_terms;
       names = tag_names;
       is = select_named_is;
-      plain = select_named_plain;
       own = λ db. refl;
       shows = λ at e. refl;
       alike = λ at e. (tt, tt);
@@ -154,10 +142,10 @@ module _ (name : List ℕ) where
       wanted = λ at e w. (ap Text w, tt);
     }
 
-  pub named_found : (m : State) (old new : Store) (rows : List Row) (xs : List TagRow) → StandsFor old.now.trees m → old.now.schema ≡ schema_two → Shown select_named (Text name ∷ []) old new rows → AreRead tag_row_columns rows xs
+  pub named_found : (m : State) (old new : Store) (rows : List Row) (xs : List TagRow) → StandsFor old.now.trees m → old.now.schema ≡ schema_two → Shown SELECT_TAGS_OF_NAME.now (Text name ∷ []) old new rows → AreRead tag_row_columns rows xs
       → TellNamed old.now.trees m (λ text. text ≡ name) xs
   unfolding selection
   named_found m old new rows xs s schema shown read =
       let db = old.now.trees in
       told_named db m s (λ text. text ≡ name) xs
-      (selects_typed (entry_row db m) (λ at e. entry_row db m e) (HasName db m) tag_row_columns select_named (Text name ∷ []) 17 (selection db m) (λ x. refl) old new rows schema (typed_tags db m s) shown xs read)
+      (selects_typed (entry_row db m) (λ at e. entry_row db m e) (HasName db m) tag_row_columns SELECT_TAGS_OF_NAME.now (Text name ∷ []) 17 (selection db m) (λ x. refl) old new rows schema (typed_tags db m s) shown xs read)

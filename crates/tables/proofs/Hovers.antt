@@ -1,15 +1,13 @@
 -- The contents of a hover result, as they are selected.
-use Rattle.std.proofs.Common.{◌≡◌, inl, inr, ℕ, ℤ, List, [], ◌∷◌, Option, Some, None, codes, false, refl, sym, ap, subst, ◌∙◌, option_map, string_bytes, ◌↔◌}
+use Rattle.std.proofs.Common.{◌≡◌, inl, inr, ℕ, ℤ, List, [], ◌∷◌, Option, Some, None, codes, refl, sym, ap, subst, ◌∙◌, option_map, string_bytes, ◌↔◌}
 use Rattle.std.specs.declared.string.String.{String}
 use Rattle.std.specs.declared.alloc.Global.{Global}
-use Rattle.sqlite.specs.Listing.{understood, reads_listing}
+use Rattle.sqlite.specs.Listing.{understood}
 use Rattle.sqlite.specs.State.{State as Store, Shown}
-use Rattle.sqlite.proofs.Callers.{IsPlain, command_of}
 use Rattle.sqlite_tied.specs.Compute.{everything}
 use Rattle.sqlite_value.specs.Order.{Row}
 use Rattle.sqlite_value.specs.declared.value.Value.TheVariants.{Int, Text}
 use Rattle.sqlite_sql.specs.Term.{col}
-use Rattle.sqlite_schema.specs.declared.command.Command.TheVariants.{Select}
 use Rattle.sqlite_trees.specs.Tree.{Trees}
 use Rattle.sqlite_rules.specs.Lists.{Has}
 use Rattle.dump.specs.Progress.{DumpValue}
@@ -21,27 +19,18 @@ use Rattle.tables.specs.Contents.{owned, slot_row}
 use Rattle.machine.specs.State.{State}
 use Rattle.tables.specs.Stands.{StandsFor}
 use Rattle.machine.specs.Selections.{FindsHover}
-use Rattle.tables.specs.Steps.SelectionTexts.{select_hover}
-use Rattle.tables.specs.Steps.Selected.{IsFirstRead, IsQuery, equals}
+use Rattle.tables.specs.declared.results.TheConstants.{SELECT_HOVER}
+use Rattle.tables.specs.Steps.Selected.{IsFirstRead, equals}
 use Rattle.tables.specs.Steps.DumpEntries.{Entries, entry_values, ShowsOneOf}
 use Rattle.tables.specs.TableTrees.{slot_tree}
 use Rattle.tables.proofs.DumpEntries.{typed, shows_one_of, listed_are, dump_slot}
 use Rattle.tables.proofs.Keeping.{same_some}
-use Rattle.tables.proofs.Select.{one_table}
+use Rattle.tables.proofs.Select.{IsSelect, one_table}
 use Rattle.tables.proofs.Selecting.{IsSelection, shows_one}
-use Rattle.tables.proofs.Silent.{silent}
 
-select_hover_is : command_of (understood schema_two select_hover) ≡ Select (record { lets = []; body = one_table 11 (equals ((1, 0) ∷ (2, 1) ∷ [])) (col 1 3 ∷ []) }) (codes "contents" ∷ [])
+pub select_hover_is : IsSelect schema_two SELECT_HOVER.now (one_table 11 (equals ((1, 0) ∷ (2, 1) ∷ [])) (col 1 3 ∷ [])) (codes "contents" ∷ [])
 unfolding understood everything
-select_hover_is = refl
-
-pub select_hover_plain : IsPlain (understood schema_two select_hover) × (reads_listing schema_two select_hover ≡ false)
-unfolding understood everything
-select_hover_plain = ((refl, refl), refl)
-
-pub select_hover_reads : IsQuery select_hover
-unfolding understood everything
-select_hover_reads = record { plain = select_hover_plain.0; silent = silent select_hover (λ schema base. refl) }
+select_hover_is = record { is = refl; plain = (refl, refl); unlisted = refl; silent = λ schema base. refl }
 
 abbrev IsHover : DumpValue → HoverRowValue → Type 0
 IsHover dump row = IsHoverRow dump.elements row
@@ -66,13 +55,12 @@ module _ (result : ℕ) where
     abbrev IsWanted : ℤ → Entries IsHover db m → Type 0
     IsWanted at e = (e.0.slot ≡ id) × HasNumber e.0.value
 
-    selection : IsSelection (entry_values hover_columns IsHover db m) (λ at e. contents_shown e.0.value) IsWanted select_hover (Int id ∷ number result ∷ []) 11
+    selection : IsSelection (entry_values hover_columns IsHover db m) (λ at e. contents_shown e.0.value) IsWanted SELECT_HOVER.now (Int id ∷ number result ∷ []) 11
     selection = record {
       pairs = (1, 0) ∷ (2, 1) ∷ [];
       terms = col 1 3 ∷ [];
       names = codes "contents" ∷ [];
       is = select_hover_is;
-      plain = select_hover_plain;
       own = λ db. refl;
       shows = λ at e. refl;
       alike = λ at e. (tt, (tt, tt));
@@ -89,11 +77,11 @@ module _ (result : ℕ) where
       (dump, has, subst (λ (x : ℕ × List ℕ). IsHover dump (record { result = x.0; contents = x.1 })) (λ i. (one.2 i, same i)) one.1)
 
   pub hover_found : (m : State) (id : ℤ) (project : List ℕ) (old new : Store) (rows : List Row) (found : Option (String Global)) → StandsFor old.now.trees m → old.now.schema ≡ schema_two → Has (old.now.trees slot_tree) (slot_row id project Dump)
-      → Shown select_hover (Int id ∷ number result ∷ []) old new rows → IsFirstRead text_columns rows found → FindsHover m project result (option_map string_bytes found)
+      → Shown SELECT_HOVER.now (Int id ∷ number result ∷ []) old new rows → IsFirstRead text_columns rows found → FindsHover m project result (option_map string_bytes found)
   unfolding selection
   hover_found m id project old new rows found s schema slot shown read =
       let db = old.now.trees in
       let dump = dump_slot db m s project id slot in
       finds m project dump.0 dump.1 found (shows_one_of db m s IsHover hover_columns 11 is_owned are (λ tags. refl) project dump.0 id slot dump.1 HasNumber contents_shown text_columns found
-      (shows_one (entry_values hover_columns IsHover db m) (λ at e. contents_shown e.0.value) (IsWanted db m id) text_columns select_hover (Int id ∷ number result ∷ []) 11 (selection db m id) (λ x. refl) old new rows schema
+      (shows_one (entry_values hover_columns IsHover db m) (λ at e. contents_shown e.0.value) (IsWanted db m id) text_columns SELECT_HOVER.now (Int id ∷ number result ∷ []) 11 (selection db m id) (λ x. refl) old new rows schema
       (typed db m s IsHover hover_columns 11 is_owned are (λ tags. refl)) shown found read))

@@ -1,45 +1,51 @@
 -- The INSERT of each table.
-use Rattle.std.proofs.Common.{String, string_bytes, option_map, ◌/◌, suc, slice_get, ◌≡◌, ◌∙◌, ◌+◌, ◌==◌, eqb-true, arith, inl, inr, ℕ, ℤ, pos, Bool, true, false, cond, List, [], ◌∷◌, length, map, flat_map, Option, Some, None, refl, sym, ap, subst, IsTrue, Result, OnOk}
-use Rattle.std.proofs.lemmas.Bool.{cases_Bool}
+use Rattle.std.proofs.Common.{append-nil, String, string_bytes, option_map, ◌/◌, suc, slice_get, ◌≡◌, ◌∙◌, ◌+◌, arith, ℕ, ℤ, pos, Bool, true, false, cond, List, [], ◌∷◌, length, map, flat_map, Option, Some, None, refl, ap, subst, IsTrue, Result, OnOk}
 use Rattle.sqlite_value.specs.declared.value.Value.{Value}
 use Rattle.sqlite_value.specs.declared.value.Value.TheVariants.{Null, Int, Text}
 use Rattle.sqlite_value.specs.Order.{Row}
 use Rattle.sqlite_sql.specs.Term.{lit, col}
 use Rattle.sqlite_sql.specs.Ops.{unary}
-use Rattle.sqlite_schema.specs.Names.{same_name}
-use Rattle.sqlite_schema.specs.declared.schema.Keys.TheVariants.{Enforced}
 use Rattle.sqlite_schema.specs.declared.schema.Kind.TheVariants.{Integer, Text as TextKind}
 use Rattle.sqlite_rules.specs.Cast.{cast, cast_row, cast_all as cast_columns}
 use Rattle.sqlite_schema.specs.declared.schema.Table.{Table}
-use Rattle.sqlite_rules.specs.Action.{works}
 use Rattle.sqlite.specs.declared.error.Error.{Error}
 use Rattle.sqlite.specs.State.{State, ExecutesInside}
 use Rattle.sqlite.specs.Effect.{value_rows}
-use Rattle.sqlite.specs.Given.{IsPlain}
-use Rattle.sqlite.specs.Listing.{understood}
 use Rattle.sqlite.specs.Values.{or_null, bound_value}
-use Rattle.sqlite.proofs.Callers.{command_of}
 use Rattle.sqlite_schema.specs.declared.command.Source.TheVariants.{Values}
 use Rattle.sqlite_schema.specs.declared.command.Command.TheVariants.{Insert}
 use Rattle.positions.specs.Position.{packed_of}
 use Rattle.lsif.specs.declared.profile.Profile.{Profile}
-use Rattle.tags.specs.Values.{TagValue}
+use Rattle.tags.specs.Views.{tag_value}
 use Rattle.lsif.specs.declared.request_kind.RequestKind.{RequestKind}
 use Rattle.lsif.specs.declared.request_kind.RequestKind.TheVariants.{Definition, References, Hover}
-use Rattle.flatten.specs.Flat.{ResultsValue, RangeRowValue, ItemRowValue, HoverRowValue, MarkRowValue, BearerRowValue, role_index, kind_index}
+use Rattle.flatten.specs.Flat.{ResultsValue, role_index, kind_index}
+use Rattle.flatten.specs.Rows.{document_value, range_value, item_value, hover_value, mark_value, bearer_value}
+use Rattle.flatten.specs.declared.rows.DocRow.{DocRow}
+use Rattle.flatten.specs.declared.rows.RangeRow.{RangeRow}
+use Rattle.flatten.specs.declared.rows.ItemRow.{ItemRow}
+use Rattle.flatten.specs.declared.rows.HoverRow.{HoverRow}
+use Rattle.flatten.specs.declared.rows.MarkRow.{MarkRow}
+use Rattle.flatten.specs.declared.rows.BearerRow.{BearerRow}
 use Rattle.lsif.specs.Profiles.{profile_number}
 use Rattle.tables.specs.Columns.{number, optional, document_columns, range_columns, item_columns, hover_columns, mark_columns, bearer_columns, kind_columns, optional_text, columns_with, profile_columns}
 use Rattle.tables.specs.Kinds.{more_kinds, more_names}
-use Rattle.tables.specs.Steps.Known.{MoreValue, more_values}
-use Rattle.tables.specs.Steps.Texts.{insert_slot, insert_keyed, insert_document, insert_range_row, insert_item, insert_hover, insert_mark, insert_bearer, insert_tag, insert_part_profile, insert_more, insert_range_rows, insert_items, insert_hovers, insert_marks, insert_bearers, insert_tags}
+use Rattle.tables.specs.Steps.Known.{MoreValue, more_value, more_values}
+use Rattle.tables.specs.declared.more.MoreRow.{MoreRow}
+use Rattle.tables.specs.declared.tags_part.WrittenTag.{WrittenTag}
+use Rattle.tables.specs.declared.slots.TheConstants.{INSERT_INTO_SLOT, INSERT_INTO_KEYED}
+use Rattle.tables.specs.declared.dump_rows.TheConstants.{INSERT_DOCUMENT, INSERT_RANGE, INSERT_ITEM, INSERT_HOVER, INSERT_MARK, INSERT_BEARER, INSERT_EIGHT_RANGES, INSERT_EIGHT_ITEMS, INSERT_EIGHT_HOVERS, INSERT_EIGHT_MARKS, INSERT_EIGHT_BEARERS}
+use Rattle.tables.specs.declared.tags_part.TheConstants.{INSERT_TAG, INSERT_EIGHT_TAGS}
+use Rattle.tables.specs.declared.dump_part.TheConstants.{INSERT_INTO_PROFILES}
+use Rattle.tables.specs.declared.kinds.TheConstants.{INSERT_MORE}
 use Rattle.tables.specs.Schema.{schema_two, integer_column, slot, keyed, document, range_row, item, hover, mark, bearer, tag, part_profile, more}
 use Rattle.tables.specs.Steps.Puts.{Steps, Puts}
-use Rattle.tables.specs.Steps.Inserts.{Inserts, plainly}
+use Rattle.tables.specs.Steps.Inserts.{Inserts, InsertsOne, InsertsEight, plainly}
 use Rattle.tables.proofs.ValueRows.{rows_of_values}
 use Rattle.tables.specs.TableTrees.{slot_tree, keyed_tree, document_tree, range_row_tree, item_tree, hover_tree, mark_tree, bearer_tree, tag_tree, part_profile_tree, more_tree}
 use Rattle.tables.specs.Databases.{IsListed}
 use Rattle.tables.proofs.Puts.{put_at, listed_ok}
-use Rattle.tables.proofs.Commands.{insert_slot_is, insert_slot_plain, insert_keyed_is, insert_keyed_plain, insert_document_is, insert_document_plain, insert_range_row_is, insert_range_row_plain, insert_item_is, insert_item_plain, insert_hover_is, insert_hover_plain, insert_mark_is, insert_mark_plain, insert_bearer_is, insert_bearer_plain, insert_tag_is, insert_tag_plain, insert_part_profile_is, insert_part_profile_plain, insert_more_is, insert_more_plain, row_terms, insert_range_rows_is, insert_range_rows_plain, insert_items_is, insert_items_plain, insert_hovers_is, insert_hovers_plain, insert_marks_is, insert_marks_plain, insert_bearers_is, insert_bearers_plain, insert_tags_is, insert_tags_plain}
+use Rattle.tables.proofs.Commands.{IsCommand, insert_slot_is, insert_keyed_is, insert_document_is, insert_range_row_is, insert_item_is, insert_hover_is, insert_mark_is, insert_bearer_is, insert_tag_is, insert_part_profile_is, insert_more_is, row_terms, insert_range_rows_is, insert_items_is, insert_hovers_is, insert_marks_is, insert_bearers_is, insert_tags_is}
 
 either : (b : Bool) (x : Value) → cond b x x ≡ x
 either true x = refl
@@ -77,10 +83,6 @@ pub bound_text : (o : Option (List ℕ)) → bound_value (optional_text o) ≡ o
 bound_text None = refl
 bound_text (Some text) = refl
 
--- there is a row
-pub some_rows : (row : Row) (more : List Row) → (length (row ∷ more) == 0) ≡ false
-some_rows row more = elim (cases_Bool (length (row ∷ more) == 0)) [ inl none ↦ absurd (omega (arith, eqb-true (length (row ∷ more)) 0 none)) | inr some ↦ some ]
-
 -- rows that a table takes as they are
 each_cast : (t : Table) {X : Type 0} (columns : X → Row) → ((x : X) → cast_row t (Null ∷ columns x) ≡ Null ∷ columns x) → (xs : List X)
     → map (cast_row t) (map (λ x. Null ∷ columns x) xs) ≡ map (λ v. Null ∷ v) (map columns xs)
@@ -93,16 +95,14 @@ record IsPut {X : Type 0} (at tree width : ℕ) (columns : X → Row) : Type 0 w
   table : Table
   placed : slice_get schema_two.tables at ≡ Some (plainly table)
   of_tree : table.tree ≡ tree
-  quiet : (row : Row) (more : List Row) → works schema_two Enforced 0 table.tree [] (row ∷ more) ≡ []
   wide : (x : X) → length (columns x) ≡ width
   cast : (x : X) → cast_row table (Null ∷ columns x) ≡ Null ∷ columns x
 
 -- a statement with values for so many rows puts them
 puts : {X : Type 0} {at tree width : ℕ} {columns : X → Row} → IsPut at tree width columns → (text : List ℕ) (n : ℕ)
-    → command_of (understood schema_two text) ≡ Insert at (Values (row_terms 0 width n) (suc width)) → IsPlain (understood schema_two text)
-    → length (row_terms 0 width n) / suc width ≡ n → (x : X) (rest : List X) → length (x ∷ rest) ≡ n
+    → IsCommand text (Insert at (Values (row_terms 0 width n) (suc width))) → length (row_terms 0 width n) / suc width ≡ n → (x : X) (rest : List X) → length (x ∷ rest) ≡ n
     → Inserts text tree (flat_map columns (x ∷ rest)) (map columns (x ∷ rest))
-puts {X} {at} {tree} {width} {columns} it text n is plain counts x rest len =
+puts {X} {at} {tree} {width} {columns} it text n command counts x rest len =
     let rows : List X = x ∷ rest in
     let values : Row = flat_map columns rows in
     let each = subst (λ k. value_rows values (suc width) k (row_terms 0 width k) ≡ map (λ y. Null ∷ columns y) rows) len (rows_of_values columns width it.wide rows) in
@@ -111,207 +111,133 @@ puts {X} {at} {tree} {width} {columns} it text n is plain counts x rest len =
       table = it.table;
       terms = row_terms 0 width n;
       width = suc width;
-      is = is;
-      plain = plain;
+      is = command.is;
+      plain = command.plain;
       placed = it.placed;
       of_tree = it.of_tree;
-      quiet = it.quiet;
       first = columns x;
       rest = map columns rest;
       some = refl;
       taken = ap (map (cast_row it.table)) (ap (λ k. value_rows values (suc width) k (row_terms 0 width n)) counts ∙ each) ∙ each_cast it.table columns it.cast rows;
     }
 
--- a tag with the text of its fields
-abbrev pub written_columns : TagValue × List ℕ → Row
-written_columns t = columns_with t.0 t.1
+ones : {X : Type 0} {at tree width : ℕ} {columns : X → Row} → ((id : ℤ) → IsPut at tree width (λ x. Int id ∷ columns x)) → (text : List ℕ) → IsCommand text (Insert at (Values (row_terms 0 width 1) (suc width)))
+    → length (row_terms 0 width 1) / suc width ≡ 1 → InsertsOne text tree columns
+ones {X} {at} {tree} {width} {columns} puts_rows text is counts = record {
+  one = λ id x. subst (λ values. Inserts text tree values ((Int id ∷ columns x) ∷ [])) (append-nil (Int id ∷ columns x)) (puts (puts_rows id) text 1 is counts x [] refl);
+}
+
+eights : {X : Type 0} {at tree width : ℕ} {columns : X → Row} → ((id : ℤ) → IsPut at tree width (λ x. Int id ∷ columns x)) → (text : List ℕ) → IsCommand text (Insert at (Values (row_terms 0 width 8) (suc width)))
+    → length (row_terms 0 width 8) / suc width ≡ 8 → InsertsEight text tree columns
+eights {X} {at} {tree} {width} {columns} puts_rows text is counts = record { eight = all }
+  where
+    all : (id : ℤ) (rows : List X) → length rows ≡ 8 → Inserts text tree (flat_map (λ x. Int id ∷ columns x) rows) (map (λ x. Int id ∷ columns x) rows)
+    all id [] len = absurd (omega (arith, len))
+    all id (x ∷ rows) len = puts (puts_rows id) text 8 is counts x rows len
 
 -- slot
 
-slot_quiet : (row : Row) (more : List Row) → works schema_two Enforced 0 slot_tree [] (row ∷ more) ≡ []
-unfolding same_name
-slot_quiet row more = rw (some_rows row more) refl
-
-pub slot_put : (project : List ℕ) (part : ℤ) (old new : State) (r : Result ℕ Error) → old.now.schema ≡ schema_two → IsTrue old.in_transaction → ExecutesInside 0 insert_slot (Text project ∷ Int part ∷ []) old new r
+pub slot_put : (project : List ℕ) (part : ℤ) (old new : State) (r : Result ℕ Error) → old.now.schema ≡ schema_two → IsTrue old.in_transaction → ExecutesInside 0 INSERT_INTO_SLOT.now (Text project ∷ Int part ∷ []) old new r
     → OnOk r (Steps (Puts slot_tree new.last_rowid (Null ∷ Text project ∷ Int part ∷ [])) old new)
 slot_put project part =
-    put_at insert_slot (Text project ∷ Int part ∷ []) 1 slot (lit Null ∷ lit Null ∷ col 0 0 ∷ col 0 1 ∷ []) 4 insert_slot_is insert_slot_plain refl slot_quiet (Null ∷ Text project ∷ Int part ∷ []) (rw (cast_null, cast_int part) refl)
+    put_at INSERT_INTO_SLOT.now (Text project ∷ Int part ∷ []) 1 slot (lit Null ∷ lit Null ∷ col 0 0 ∷ col 0 1 ∷ []) 4 insert_slot_is.is insert_slot_is.plain refl (Null ∷ Text project ∷ Int part ∷ []) (rw (cast_null, cast_int part) refl)
 
 -- keyed
 
-keyed_quiet : (row : Row) (more : List Row) → works schema_two Enforced 0 keyed_tree [] (row ∷ more) ≡ []
-unfolding same_name
-keyed_quiet row more = rw (some_rows row more) refl
-
-keyed_cast : (project key reply : List ℕ) → cast_row keyed (Null ∷ Text project ∷ Text key ∷ Text reply ∷ []) ≡ Null ∷ Text project ∷ Text key ∷ Text reply ∷ []
-keyed_cast project key reply = rw (cast_null)
-
 keyed_rows : IsPut 2 keyed_tree 3 (λ (kept : List ℕ × (List ℕ × List ℕ)). Text kept.0 ∷ Text kept.1.0 ∷ Text kept.1.1 ∷ [])
-keyed_rows = record { table = keyed; placed = refl; of_tree = refl; quiet = keyed_quiet; wide = λ kept. refl; cast = λ kept. keyed_cast kept.0 kept.1.0 kept.1.1 }
+keyed_rows = record { table = keyed; placed = refl; of_tree = refl; wide = λ kept. refl; cast = λ kept. rw (cast_null) }
 
-pub keyed_put : (project key reply : List ℕ) → Inserts insert_keyed keyed_tree (Text project ∷ Text key ∷ Text reply ∷ []) ((Text project ∷ Text key ∷ Text reply ∷ []) ∷ [])
-keyed_put project key reply = puts keyed_rows insert_keyed 1 insert_keyed_is insert_keyed_plain refl (project, (key, reply)) [] refl
+pub keyed_put : (project key reply : List ℕ) → Inserts INSERT_INTO_KEYED.now keyed_tree (Text project ∷ Text key ∷ Text reply ∷ []) ((Text project ∷ Text key ∷ Text reply ∷ []) ∷ [])
+keyed_put project key reply = puts keyed_rows INSERT_INTO_KEYED.now 1 insert_keyed_is refl (project, (key, reply)) [] refl
 
-pub keyed_listed : (project key reply : List ℕ) (old new : State) (done : Result ℕ Error) → old.now.schema ≡ schema_two → ExecutesInside 0 insert_keyed (Text project ∷ Text key ∷ Text reply ∷ []) old new done
+pub keyed_listed : (project key reply : List ℕ) (old new : State) (done : Result ℕ Error) → old.now.schema ≡ schema_two → ExecutesInside 0 INSERT_INTO_KEYED.now (Text project ∷ Text key ∷ Text reply ∷ []) old new done
     → OnOk done (IsListed schema_two new.now.trees)
 keyed_listed project key reply =
-    listed_ok insert_keyed keyed_tree (Text project ∷ Text key ∷ Text reply ∷ []) ((Text project ∷ Text key ∷ Text reply ∷ []) ∷ []) (keyed_put project key reply)
+    listed_ok INSERT_INTO_KEYED.now keyed_tree (Text project ∷ Text key ∷ Text reply ∷ []) ((Text project ∷ Text key ∷ Text reply ∷ []) ∷ []) (keyed_put project key reply)
 
 -- document
 
-document_quiet : (row : Row) (more : List Row) → works schema_two Enforced 0 document_tree [] (row ∷ more) ≡ []
-unfolding same_name
-document_quiet row more = rw (some_rows row more) refl
+document_rows : (id : ℤ) → IsPut 3 document_tree 2 (λ (row : DocRow). Int id ∷ document_columns (document_value row))
+document_rows id = record { table = document; placed = refl; of_tree = refl; wide = λ row. refl; cast = λ row. rw (cast_null, cast_int id) }
 
-document_cast : (id : ℤ) (uri : List ℕ) → cast_row document (Null ∷ Int id ∷ document_columns uri) ≡ Null ∷ Int id ∷ document_columns uri
-document_cast id uri = rw (cast_null, cast_int id)
-
-document_rows : {X : Type 0} (value : X → List ℕ) (id : ℤ) → IsPut 3 document_tree 2 (λ (x : X). Int id ∷ document_columns (value x))
-document_rows value id = record { table = document; placed = refl; of_tree = refl; quiet = document_quiet; wide = λ x. refl; cast = λ x. document_cast id (value x) }
-
-pub document_put : (id : ℤ) (uri : List ℕ) → Inserts insert_document document_tree (Int id ∷ document_columns uri) ((Int id ∷ document_columns uri) ∷ [])
-document_put id uri = puts (document_rows (λ (x : List ℕ). x) id) insert_document 1 insert_document_is insert_document_plain refl uri [] refl
+pub document_put : InsertsOne INSERT_DOCUMENT.now document_tree (λ (row : DocRow). document_columns (document_value row))
+document_put = ones document_rows INSERT_DOCUMENT.now insert_document_is refl
 
 -- range_row
 
-range_row_quiet : (row : Row) (more : List Row) → works schema_two Enforced 0 range_row_tree [] (row ∷ more) ≡ []
-unfolding same_name
-range_row_quiet row more = rw (some_rows row more) refl
+range_row_rows : (id : ℤ) → IsPut 4 range_row_tree 9 (λ (row : RangeRow). Int id ∷ range_columns (range_value row))
+range_row_rows id = record { table = range_row; placed = refl; of_tree = refl; wide = λ row. refl; cast = λ row. rw (cast_null, cast_int id, cast_int (pos (range_value row).line), cast_int (pos (packed_of (range_value row).place.span.start)), cast_int (pos (packed_of (range_value row).place.span.«end»)), cast_optional (range_value row).parent, cast_optional ((range_value row).results Definition), cast_optional ((range_value row).results References), cast_optional ((range_value row).results Hover)) }
 
-range_row_cast : (id : ℤ) (r : RangeRowValue) → cast_row range_row (Null ∷ Int id ∷ range_columns r) ≡ Null ∷ Int id ∷ range_columns r
-range_row_cast id r = rw (cast_null, cast_int id, cast_int (pos r.line), cast_int (pos (packed_of r.place.span.start)), cast_int (pos (packed_of r.place.span.«end»)), cast_optional (r.parent), cast_optional (r.results Definition), cast_optional (r.results References), cast_optional (r.results Hover))
+pub range_row_put : InsertsOne INSERT_RANGE.now range_row_tree (λ (row : RangeRow). range_columns (range_value row))
+range_row_put = ones range_row_rows INSERT_RANGE.now insert_range_row_is refl
 
-range_row_rows : {X : Type 0} (value : X → RangeRowValue) (id : ℤ) → IsPut 4 range_row_tree 9 (λ (x : X). Int id ∷ range_columns (value x))
-range_row_rows value id = record { table = range_row; placed = refl; of_tree = refl; quiet = range_row_quiet; wide = λ x. refl; cast = λ x. range_row_cast id (value x) }
-
-pub range_row_put : (id : ℤ) (r : RangeRowValue) → Inserts insert_range_row range_row_tree (Int id ∷ range_columns r) ((Int id ∷ range_columns r) ∷ [])
-range_row_put id r = puts (range_row_rows (λ (x : RangeRowValue). x) id) insert_range_row 1 insert_range_row_is insert_range_row_plain refl r [] refl
-
-pub range_rows_put : {X : Type 0} (value : X → RangeRowValue) (id : ℤ) (rows : List X) → length rows ≡ 8
-    → Inserts insert_range_rows range_row_tree (flat_map (λ row. Int id ∷ range_columns (value row)) rows) (map (λ row. Int id ∷ range_columns (value row)) rows)
-range_rows_put value id [] len = absurd (omega (arith, len))
-range_rows_put value id (x ∷ rows) len = puts (range_row_rows value id) insert_range_rows 8 insert_range_rows_is insert_range_rows_plain refl x rows len
+pub range_rows_put : InsertsEight INSERT_EIGHT_RANGES.now range_row_tree (λ (row : RangeRow). range_columns (range_value row))
+range_rows_put = eights range_row_rows INSERT_EIGHT_RANGES.now insert_range_rows_is refl
 
 -- item
 
-item_quiet : (row : Row) (more : List Row) → works schema_two Enforced 0 item_tree [] (row ∷ more) ≡ []
-unfolding same_name
-item_quiet row more = rw (some_rows row more) refl
+item_rows : (id : ℤ) → IsPut 5 item_tree 6 (λ (row : ItemRow). Int id ∷ item_columns (item_value row))
+item_rows id = record { table = item; placed = refl; of_tree = refl; wide = λ row. refl; cast = λ row. rw (cast_null, cast_int id, cast_int (pos (item_value row).result), cast_int (pos (role_index (item_value row).role)), cast_int (pos (packed_of (item_value row).place.span.start)), cast_int (pos (packed_of (item_value row).place.span.«end»))) }
 
-item_cast : (id : ℤ) (i : ItemRowValue) → cast_row item (Null ∷ Int id ∷ item_columns i) ≡ Null ∷ Int id ∷ item_columns i
-item_cast id i = rw (cast_null, cast_int id, cast_int (pos i.result), cast_int (pos (role_index i.role)), cast_int (pos (packed_of i.place.span.start)), cast_int (pos (packed_of i.place.span.«end»)))
+pub item_put : InsertsOne INSERT_ITEM.now item_tree (λ (row : ItemRow). item_columns (item_value row))
+item_put = ones item_rows INSERT_ITEM.now insert_item_is refl
 
-item_rows : {X : Type 0} (value : X → ItemRowValue) (id : ℤ) → IsPut 5 item_tree 6 (λ (x : X). Int id ∷ item_columns (value x))
-item_rows value id = record { table = item; placed = refl; of_tree = refl; quiet = item_quiet; wide = λ x. refl; cast = λ x. item_cast id (value x) }
-
-pub item_put : (id : ℤ) (i : ItemRowValue) → Inserts insert_item item_tree (Int id ∷ item_columns i) ((Int id ∷ item_columns i) ∷ [])
-item_put id i = puts (item_rows (λ (x : ItemRowValue). x) id) insert_item 1 insert_item_is insert_item_plain refl i [] refl
-
-pub items_put : {X : Type 0} (value : X → ItemRowValue) (id : ℤ) (rows : List X) → length rows ≡ 8
-    → Inserts insert_items item_tree (flat_map (λ row. Int id ∷ item_columns (value row)) rows) (map (λ row. Int id ∷ item_columns (value row)) rows)
-items_put value id [] len = absurd (omega (arith, len))
-items_put value id (x ∷ rows) len = puts (item_rows value id) insert_items 8 insert_items_is insert_items_plain refl x rows len
+pub items_put : InsertsEight INSERT_EIGHT_ITEMS.now item_tree (λ (row : ItemRow). item_columns (item_value row))
+items_put = eights item_rows INSERT_EIGHT_ITEMS.now insert_items_is refl
 
 -- hover
 
-hover_quiet : (row : Row) (more : List Row) → works schema_two Enforced 0 hover_tree [] (row ∷ more) ≡ []
-unfolding same_name
-hover_quiet row more = rw (some_rows row more) refl
+hover_rows : (id : ℤ) → IsPut 6 hover_tree 3 (λ (row : HoverRow). Int id ∷ hover_columns (hover_value row))
+hover_rows id = record { table = hover; placed = refl; of_tree = refl; wide = λ row. refl; cast = λ row. rw (cast_null, cast_int id, cast_int (pos (hover_value row).result)) }
 
-hover_cast : (id : ℤ) (h : HoverRowValue) → cast_row hover (Null ∷ Int id ∷ hover_columns h) ≡ Null ∷ Int id ∷ hover_columns h
-hover_cast id h = rw (cast_null, cast_int id, cast_int (pos h.result))
+pub hover_put : InsertsOne INSERT_HOVER.now hover_tree (λ (row : HoverRow). hover_columns (hover_value row))
+hover_put = ones hover_rows INSERT_HOVER.now insert_hover_is refl
 
-hover_rows : {X : Type 0} (value : X → HoverRowValue) (id : ℤ) → IsPut 6 hover_tree 3 (λ (x : X). Int id ∷ hover_columns (value x))
-hover_rows value id = record { table = hover; placed = refl; of_tree = refl; quiet = hover_quiet; wide = λ x. refl; cast = λ x. hover_cast id (value x) }
-
-pub hover_put : (id : ℤ) (h : HoverRowValue) → Inserts insert_hover hover_tree (Int id ∷ hover_columns h) ((Int id ∷ hover_columns h) ∷ [])
-hover_put id h = puts (hover_rows (λ (x : HoverRowValue). x) id) insert_hover 1 insert_hover_is insert_hover_plain refl h [] refl
-
-pub hovers_put : {X : Type 0} (value : X → HoverRowValue) (id : ℤ) (rows : List X) → length rows ≡ 8
-    → Inserts insert_hovers hover_tree (flat_map (λ row. Int id ∷ hover_columns (value row)) rows) (map (λ row. Int id ∷ hover_columns (value row)) rows)
-hovers_put value id [] len = absurd (omega (arith, len))
-hovers_put value id (x ∷ rows) len = puts (hover_rows value id) insert_hovers 8 insert_hovers_is insert_hovers_plain refl x rows len
+pub hovers_put : InsertsEight INSERT_EIGHT_HOVERS.now hover_tree (λ (row : HoverRow). hover_columns (hover_value row))
+hovers_put = eights hover_rows INSERT_EIGHT_HOVERS.now insert_hovers_is refl
 
 -- mark
 
-mark_quiet : (row : Row) (more : List Row) → works schema_two Enforced 0 mark_tree [] (row ∷ more) ≡ []
-unfolding same_name
-mark_quiet row more = rw (some_rows row more) refl
+mark_rows : (id : ℤ) → IsPut 7 mark_tree 4 (λ (row : MarkRow). Int id ∷ mark_columns (mark_value row))
+mark_rows id = record { table = mark; placed = refl; of_tree = refl; wide = λ row. refl; cast = λ row. rw (cast_null, cast_int id, cast_int (pos (mark_value row).range), cast_int (pos (kind_index (mark_value row).kind))) }
 
-mark_cast : (id : ℤ) (m : MarkRowValue) → cast_row mark (Null ∷ Int id ∷ mark_columns m) ≡ Null ∷ Int id ∷ mark_columns m
-mark_cast id m = rw (cast_null, cast_int id, cast_int (pos m.range), cast_int (pos (kind_index m.kind)))
+pub mark_put : InsertsOne INSERT_MARK.now mark_tree (λ (row : MarkRow). mark_columns (mark_value row))
+mark_put = ones mark_rows INSERT_MARK.now insert_mark_is refl
 
-mark_rows : {X : Type 0} (value : X → MarkRowValue) (id : ℤ) → IsPut 7 mark_tree 4 (λ (x : X). Int id ∷ mark_columns (value x))
-mark_rows value id = record { table = mark; placed = refl; of_tree = refl; quiet = mark_quiet; wide = λ x. refl; cast = λ x. mark_cast id (value x) }
-
-pub mark_put : (id : ℤ) (m : MarkRowValue) → Inserts insert_mark mark_tree (Int id ∷ mark_columns m) ((Int id ∷ mark_columns m) ∷ [])
-mark_put id m = puts (mark_rows (λ (x : MarkRowValue). x) id) insert_mark 1 insert_mark_is insert_mark_plain refl m [] refl
-
-pub marks_put : {X : Type 0} (value : X → MarkRowValue) (id : ℤ) (rows : List X) → length rows ≡ 8
-    → Inserts insert_marks mark_tree (flat_map (λ row. Int id ∷ mark_columns (value row)) rows) (map (λ row. Int id ∷ mark_columns (value row)) rows)
-marks_put value id [] len = absurd (omega (arith, len))
-marks_put value id (x ∷ rows) len = puts (mark_rows value id) insert_marks 8 insert_marks_is insert_marks_plain refl x rows len
+pub marks_put : InsertsEight INSERT_EIGHT_MARKS.now mark_tree (λ (row : MarkRow). mark_columns (mark_value row))
+marks_put = eights mark_rows INSERT_EIGHT_MARKS.now insert_marks_is refl
 
 -- bearer
 
-bearer_quiet : (row : Row) (more : List Row) → works schema_two Enforced 0 bearer_tree [] (row ∷ more) ≡ []
-unfolding same_name
-bearer_quiet row more = rw (some_rows row more) refl
+bearer_rows : (id : ℤ) → IsPut 8 bearer_tree 7 (λ (row : BearerRow). Int id ∷ bearer_columns (bearer_value row))
+bearer_rows id = record { table = bearer; placed = refl; of_tree = refl; wide = λ row. refl; cast = λ row. rw (cast_null, cast_int id, cast_int (pos (bearer_value row).line), cast_int (pos (kind_index (bearer_value row).kind)), cast_optional ((bearer_value row).results Definition), cast_optional ((bearer_value row).results References), cast_optional ((bearer_value row).results Hover)) }
 
-bearer_cast : (id : ℤ) (b : BearerRowValue) → cast_row bearer (Null ∷ Int id ∷ bearer_columns b) ≡ Null ∷ Int id ∷ bearer_columns b
-bearer_cast id b = rw (cast_null, cast_int id, cast_int (pos b.line), cast_int (pos (kind_index b.kind)), cast_optional (b.results Definition), cast_optional (b.results References), cast_optional (b.results Hover))
+pub bearer_put : InsertsOne INSERT_BEARER.now bearer_tree (λ (row : BearerRow). bearer_columns (bearer_value row))
+bearer_put = ones bearer_rows INSERT_BEARER.now insert_bearer_is refl
 
-bearer_rows : {X : Type 0} (value : X → BearerRowValue) (id : ℤ) → IsPut 8 bearer_tree 7 (λ (x : X). Int id ∷ bearer_columns (value x))
-bearer_rows value id = record { table = bearer; placed = refl; of_tree = refl; quiet = bearer_quiet; wide = λ x. refl; cast = λ x. bearer_cast id (value x) }
-
-pub bearer_put : (id : ℤ) (b : BearerRowValue) → Inserts insert_bearer bearer_tree (Int id ∷ bearer_columns b) ((Int id ∷ bearer_columns b) ∷ [])
-bearer_put id b = puts (bearer_rows (λ (x : BearerRowValue). x) id) insert_bearer 1 insert_bearer_is insert_bearer_plain refl b [] refl
-
-pub bearers_put : {X : Type 0} (value : X → BearerRowValue) (id : ℤ) (rows : List X) → length rows ≡ 8
-    → Inserts insert_bearers bearer_tree (flat_map (λ row. Int id ∷ bearer_columns (value row)) rows) (map (λ row. Int id ∷ bearer_columns (value row)) rows)
-bearers_put value id [] len = absurd (omega (arith, len))
-bearers_put value id (x ∷ rows) len = puts (bearer_rows value id) insert_bearers 8 insert_bearers_is insert_bearers_plain refl x rows len
+pub bearers_put : InsertsEight INSERT_EIGHT_BEARERS.now bearer_tree (λ (row : BearerRow). bearer_columns (bearer_value row))
+bearers_put = eights bearer_rows INSERT_EIGHT_BEARERS.now insert_bearers_is refl
 
 -- tag
 
-tag_quiet : (row : Row) (more : List Row) → works schema_two Enforced 0 tag_tree [] (row ∷ more) ≡ []
-unfolding same_name
-tag_quiet row more = rw (some_rows row more) refl
+tag_rows : (id : ℤ) → IsPut 9 tag_tree 7 (λ (row : WrittenTag). Int id ∷ columns_with (tag_value row.tag.now) (string_bytes row.fields))
+tag_rows id = record { table = tag; placed = refl; of_tree = refl; wide = λ row. refl; cast = λ row. rw (cast_null, cast_int id, cast_int (pos (tag_value row.tag.now).line), cast_optional_text (tag_value row.tag.now).kind) }
 
-tag_cast : (id : ℤ) (t : TagValue × List ℕ) → cast_row tag (Null ∷ Int id ∷ written_columns t) ≡ Null ∷ Int id ∷ written_columns t
-tag_cast id t = rw (cast_null, cast_int id, cast_int (pos t.0.line), cast_optional_text t.0.kind)
+pub tag_put : InsertsOne INSERT_TAG.now tag_tree (λ (row : WrittenTag). columns_with (tag_value row.tag.now) (string_bytes row.fields))
+tag_put = ones tag_rows INSERT_TAG.now insert_tag_is refl
 
-tag_rows : {X : Type 0} (value : X → TagValue × List ℕ) (id : ℤ) → IsPut 9 tag_tree 7 (λ (x : X). Int id ∷ written_columns (value x))
-tag_rows value id = record { table = tag; placed = refl; of_tree = refl; quiet = tag_quiet; wide = λ x. refl; cast = λ x. tag_cast id (value x) }
-
-pub tag_put : (id : ℤ) (t : TagValue × List ℕ) → Inserts insert_tag tag_tree (Int id ∷ written_columns t) ((Int id ∷ written_columns t) ∷ [])
-tag_put id t = puts (tag_rows (λ (x : TagValue × List ℕ). x) id) insert_tag 1 insert_tag_is insert_tag_plain refl t [] refl
-
-pub tags_put : {X : Type 0} (value : X → TagValue × List ℕ) (id : ℤ) (rows : List X) → length rows ≡ 8
-    → Inserts insert_tags tag_tree (flat_map (λ row. Int id ∷ written_columns (value row)) rows) (map (λ row. Int id ∷ written_columns (value row)) rows)
-tags_put value id [] len = absurd (omega (arith, len))
-tags_put value id (x ∷ rows) len = puts (tag_rows value id) insert_tags 8 insert_tags_is insert_tags_plain refl x rows len
+pub tags_put : InsertsEight INSERT_EIGHT_TAGS.now tag_tree (λ (row : WrittenTag). columns_with (tag_value row.tag.now) (string_bytes row.fields))
+tags_put = eights tag_rows INSERT_EIGHT_TAGS.now insert_tags_is refl
 
 -- part_profile
 
-part_profile_quiet : (row : Row) (more : List Row) → works schema_two Enforced 0 part_profile_tree [] (row ∷ more) ≡ []
-unfolding same_name
-part_profile_quiet row more = rw (some_rows row more) refl
+part_profile_rows : (id : ℤ) → IsPut 10 part_profile_tree 2 (λ profile. Int id ∷ profile_columns profile)
+part_profile_rows id = record { table = part_profile; placed = refl; of_tree = refl; wide = λ profile. refl; cast = λ profile. rw (cast_null, cast_int id, cast_int (pos (profile_number profile))) }
 
-part_profile_cast : (id : ℤ) (profile : Profile) → cast_row part_profile (Null ∷ Int id ∷ profile_columns profile) ≡ Null ∷ Int id ∷ profile_columns profile
-part_profile_cast id profile = rw (cast_null, cast_int id, cast_int (pos (profile_number profile)))
-
-part_profile_rows : {X : Type 0} (value : X → Profile) (id : ℤ) → IsPut 10 part_profile_tree 2 (λ (x : X). Int id ∷ profile_columns (value x))
-part_profile_rows value id = record { table = part_profile; placed = refl; of_tree = refl; quiet = part_profile_quiet; wide = λ x. refl; cast = λ x. part_profile_cast id (value x) }
-
-pub part_profile_put : (id : ℤ) (profile : Profile) → Inserts insert_part_profile part_profile_tree (Int id ∷ profile_columns profile) ((Int id ∷ profile_columns profile) ∷ [])
-part_profile_put id profile = puts (part_profile_rows (λ (x : Profile). x) id) insert_part_profile 1 insert_part_profile_is insert_part_profile_plain refl profile [] refl
+pub part_profile_put : (id : ℤ) (profile : Profile) → Inserts INSERT_INTO_PROFILES.now part_profile_tree (Int id ∷ profile_columns profile) ((Int id ∷ profile_columns profile) ∷ [])
+part_profile_put id profile = puts (part_profile_rows id) INSERT_INTO_PROFILES.now 1 insert_part_profile_is refl profile [] refl
 
 -- more
-
-more_quiet : (row : Row) (more : List Row) → works schema_two Enforced 0 more_tree [] (row ∷ more) ≡ []
-unfolding same_name
-more_quiet row more = rw (some_rows row more) refl
 
 -- columns of numbers take the numbers of results as they are
 cast_numbers : (names : List (List ℕ)) (kinds : List RequestKind) (r : ResultsValue)
@@ -325,8 +251,8 @@ more_cast id v =
     ap (λ (row : Row). cast Integer Null ∷ cast Integer (Int id) ∷ cast Integer (number v.line) ∷ row) (cast_numbers more_names more_kinds v.results)
     ∙ (rw (cast_null, cast_int id, cast_int (pos v.line)) refl)
 
-more_rows : (id : ℤ) → IsPut 11 more_tree (2 + length more_kinds) (λ (v : MoreValue). Int id ∷ more_values v)
-more_rows id = record { table = more; placed = refl; of_tree = refl; quiet = more_quiet; wide = λ v. refl; cast = more_cast id }
+more_rows : (id : ℤ) → IsPut 11 more_tree (2 + length more_kinds) (λ (row : MoreRow). Int id ∷ more_values (more_value row))
+more_rows id = record { table = more; placed = refl; of_tree = refl; wide = λ row. refl; cast = λ row. more_cast id (more_value row) }
 
-pub more_put : (id : ℤ) (v : MoreValue) → Inserts insert_more more_tree (Int id ∷ more_values v) ((Int id ∷ more_values v) ∷ [])
-more_put id v = puts (more_rows id) insert_more 1 insert_more_is insert_more_plain refl v [] refl
+pub more_put : InsertsOne INSERT_MORE.now more_tree (λ (row : MoreRow). more_values (more_value row))
+more_put = ones more_rows INSERT_MORE.now insert_more_is refl

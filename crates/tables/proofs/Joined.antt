@@ -1,6 +1,6 @@
 -- What the SELECT of the bearers of a key gives: their rows, each with the row of its slot and with
 -- that of its line in `more`, where these are there.
-use Rattle.std.proofs.Common.{◌≡◌, inl, inr, refl, sym, ap, subst, ◌∙◌, pos, negsuc, List, [], ◌∷◌, map, filter, flat_map, Bool, true, false, None, codes, if◌then◌else◌}
+use Rattle.std.proofs.Common.{◌≡◌, refl, sym, ap, subst, ◌∙◌, pos, negsuc, List, [], ◌∷◌, map, filter, flat_map, true, false, None, codes, if◌then◌else◌}
 use Rattle.std.specs.List.{list_all}
 use Rattle.std.specs.List.Sorted.{IsPermutation}
 use Rattle.std.proofs.lemmas.List.Sorted.{IsPermutation-map, IsPermutation-sym}
@@ -10,17 +10,17 @@ use Rattle.sqlite_value.specs.Order.{Row}
 use Rattle.sqlite_sql.specs.Term.{Term, Env, col, lit, eval_all, holds}
 use Rattle.sqlite_sql.specs.Query.{Query, inner, left, end, IsAnswer, Output, output, or_nulls}
 use Rattle.sqlite_sql.specs.Program.{overlay}
-use Rattle.sqlite_schema.specs.declared.command.Command.TheVariants.{Select}
 use Rattle.sqlite_trees.specs.Tree.{Trees}
 use Rattle.sqlite_trees.proofs.ListLemmas.{map-map}
 use Rattle.sqlite_rules.specs.Lists.{Has}
-use Rattle.sqlite.specs.Listing.{understood, reads_listing}
+use Rattle.sqlite.specs.Listing.{understood}
 use Rattle.sqlite.specs.State.{State, Shown}
-use Rattle.sqlite.proofs.Callers.{IsPlain, command_of, reads_as}
+use Rattle.sqlite.proofs.Callers.{reads_as}
+use Rattle.tables.proofs.Select.{IsSelect}
 use Rattle.tables.specs.Kinds.{more_names}
 use Rattle.tables.specs.Schema.{schema_two}
 use Rattle.tables.specs.Steps.Queries.{same}
-use Rattle.tables.specs.Steps.SelectionTexts.{select_bearers}
+use Rattle.tables.specs.declared.bearers.TheConstants.{SELECT_BEARERS_OF_KEY}
 use Rattle.tables.proofs.Keeping.{from_map, to_map}
 use Rattle.tables.proofs.LineResults.{more_terms}
 use Rattle.tables.proofs.Puts.{flat_has, from_flat, where_true, true_there}
@@ -54,13 +54,9 @@ joined = record {
   offset = lit (Int (pos 0));
 }
 
-joined_is : command_of (understood schema_two select_bearers) ≡ Select (record { lets = []; body = joined }) (codes "project" ∷ codes "line" ∷ codes "kind" ∷ codes "def" ∷ codes "refs" ∷ codes "hover" ∷ more_names)
+pub joined_is : IsSelect schema_two SELECT_BEARERS_OF_KEY.now joined (codes "project" ∷ codes "line" ∷ codes "kind" ∷ codes "def" ∷ codes "refs" ∷ codes "hover" ∷ more_names)
 unfolding understood everything
-joined_is = refl
-
-pub select_bearers_plain : IsPlain (understood schema_two select_bearers) × (reads_listing schema_two select_bearers ≡ false)
-unfolding understood everything
-select_bearers_plain = ((refl, refl), refl)
+joined_is = record { is = refl; plain = (refl, refl); unlisted = refl; silent = λ schema base. refl }
 
 -- ---- the answer
 
@@ -119,5 +115,5 @@ module _ (params : Row) (db : Trees) where
         let there : Has all_matches env = flat_has with_bearer (db 15) b env j.bearer (flat_has (with_slot b) (or_nulls (slots b)) s env j.slot (flat_has (with_more b s) (or_nulls (mores b s)) r env j.more one)) in
         has_permuted rows _ _ (IsPermutation-sym _ rows same_rows) (to_map (eval_all bearer_terms) all_matches env there)
 
-pub answer_of : (params : Row) (old new : State) (rows : List Row) → old.now.schema ≡ schema_two → Shown select_bearers params old new rows → IsAnswer joined (overlay old.now.trees []) params rows
-answer_of params old new rows has h = (reads_as select_bearers params old new schema_two has _ joined_is select_bearers_plain.0 select_bearers_plain.1 rows h).answer Null
+pub answer_of : (params : Row) (old new : State) (rows : List Row) → old.now.schema ≡ schema_two → Shown SELECT_BEARERS_OF_KEY.now params old new rows → IsAnswer joined (overlay old.now.trees []) params rows
+answer_of params old new rows has h = (reads_as SELECT_BEARERS_OF_KEY.now params old new schema_two has _ joined_is.is joined_is.plain joined_is.unlisted rows h).answer Null

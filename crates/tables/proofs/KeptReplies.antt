@@ -9,10 +9,10 @@ use Rattle.sqlite_trees.specs.Tree.{Trees}
 use Rattle.sqlite.specs.State.{State, Shown}
 use Rattle.tables.specs.Schema.{schema_two, keyed}
 use Rattle.tables.specs.Contents.{Contents, Replies, Keeps}
-use Rattle.tables.specs.Steps.Texts.{select_reply}
+use Rattle.tables.specs.declared.replies.TheConstants.{SELECT_REPLY}
 use Rattle.tables.specs.Steps.Selected.{AreTyped, IsFirstRead, ShowsOne}
 use Rattle.tables.specs.TableTrees.{keyed_tree}
-use Rattle.tables.proofs.Commands.{select_reply_is, select_reply_plain}
+use Rattle.tables.proofs.Commands.{select_reply_is}
 use Rattle.tables.proofs.Entries.{typed_as}
 use Rattle.tables.proofs.Selecting.{IsSelection, shows_one}
 
@@ -34,13 +34,12 @@ module _ (project key : List ℕ) where
   abbrev IsUnder : ℤ → ReplyEntry → Type 0
   IsUnder id e = (e.project ≡ project) × (e.key ≡ key)
 
-  selection : IsSelection reply_values reply_shown IsUnder select_reply (Text project ∷ Text key ∷ []) 3
+  selection : IsSelection reply_values reply_shown IsUnder SELECT_REPLY.now (Text project ∷ Text key ∷ []) 3
   selection = record {
     pairs = (1, 0) ∷ (2, 1) ∷ [];
     terms = col 1 3 ∷ [];
     names = codes "reply" ∷ [];
     is = select_reply_is;
-    plain = select_reply_plain;
     own = λ db. refl;
     shows = λ id e. refl;
     alike = λ id e. (tt, (tt, tt));
@@ -67,9 +66,9 @@ module _ (project key : List ℕ) where
         let t : string_bytes text ≡ r.reply = let a = r.is in let b = one.2 in cc in
         ap (λ (x : List ℕ). Some x) t ∙ (sym r.has ∙ (ap (λ (q : List ℕ). replies q r.key) p ∙ ap (replies project) k))
 
-  pub reply_found : (old new : State) (rows : List Row) (found : Option (String Global)) (parts : Contents) (replies : Replies) → Keeps old.now.trees parts replies → old.now.schema ≡ schema_two → Shown select_reply (Text project ∷ Text key ∷ []) old new rows
+  pub reply_found : (old new : State) (rows : List Row) (found : Option (String Global)) (parts : Contents) (replies : Replies) → Keeps old.now.trees parts replies → old.now.schema ≡ schema_two → Shown SELECT_REPLY.now (Text project ∷ Text key ∷ []) old new rows
       → IsFirstRead reply_columns rows found → option_map string_bytes found ≡ replies project key
   unfolding selection
   reply_found old new rows found parts replies is has shown read =
       is_kept old.now.trees parts replies is found
-      (shows_one reply_values reply_shown IsUnder reply_columns select_reply (Text project ∷ Text key ∷ []) 3 selection (λ x. refl) old new rows has (typed old.now.trees parts replies is) shown found read)
+      (shows_one reply_values reply_shown IsUnder reply_columns SELECT_REPLY.now (Text project ∷ Text key ∷ []) 3 selection (λ x. refl) old new rows has (typed old.now.trees parts replies is) shown found read)

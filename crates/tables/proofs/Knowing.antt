@@ -1,17 +1,20 @@
 -- A slot that is known stays known while nothing is changed, and one that is named stays named.
-use Rattle.std.proofs.Common.{◌≡◌, ◌∙◌, ap, sym, subst, List, ℕ, ℤ, Option, None, Some, Result, Ok, Err, OnOk, is_ok, string_bytes}
-use Rattle.std.specs.Bool.{OnTrue}
+use Rattle.std.proofs.Common.{◌≡◌, ◌∙◌, ap, sym, subst, List, ℕ, ℤ, Bool, true, Option, None, Some, Result, Ok, Err, OnOk, is_ok, string_bytes}
 use Rattle.sqlite.specs.Effect.{Database}
 use Rattle.sqlite.specs.State.{State, HasCleanDisk}
 use Rattle.machine.specs.State as machine
 use Rattle.tables.specs.Contents.{Contents, HasSlot, Keeps, Replies}
 use Rattle.tables.specs.Schema.{schema_two}
 use Rattle.tables.specs.Stands.{IsAsBefore, StandsFor}
-use Rattle.tables.specs.Steps.Slots.{IsKnown, IsNamed, IsSlotOf}
+use Rattle.tables.specs.Steps.Slots.{IsDumpSlot, IsKnown, IsNamed, IsSlotOf}
+use Rattle.tables.specs.Steps.Clauses.{Reads}
+use Rattle.sqlite_trees.specs.Tree.{Trees}
 use Rattle.tables.specs.declared.parts.ProjectSlot.{ProjectSlot}
 use Rattle.tables.specs.declared.slots.Part.{Part}
 use Rattle.tables.specs.declared.slots.Part.TheVariants.{Dump}
+use Rattle.tables.proofs.DumpEntries.{no_dump}
 use Rattle.tables.proofs.FoundSlots.{the_slot}
+use Rattle.tables.proofs.Looking.{still, survives_clean}
 
 pub known_on : (mid new : State) (known : Option ProjectSlot) → (HasCleanDisk new → HasCleanDisk mid) → (HasCleanDisk new → IsAsBefore mid new) → IsKnown mid known → IsKnown new known
 known_on mid new None cleans same knows = tt
@@ -21,9 +24,23 @@ known_on mid new (Some slot) cleans same knows = λ clean has m s.
     (knows (cleans clean) (ap (λ (d : Database). d.schema) (sym was) ∙ has) m (subst (λ (d : Database). StandsFor d.trees m) was s))
 
 -- where a selection succeeded
-pub known_after : {A E : Type 0} (r : Result A E) (mid new : State) (known : Option ProjectSlot) → (HasCleanDisk new → HasCleanDisk mid) → (HasCleanDisk new → OnTrue (is_ok r) (IsAsBefore mid new)) → IsKnown mid known → OnOk r (IsKnown new known)
-known_after (Ok x) mid new known cleans same knows = known_on mid new known cleans same knows
-known_after (Err e) mid new known cleans same knows = tt
+pub known_after : {A E : Type 0} {mid new : State} (r : Result A E) (known : Option ProjectSlot) → Reads (is_ok r) mid new → IsKnown mid known → OnOk r (IsKnown new known)
+known_after {A} {E} {mid} {new} (Ok x) known reads knows = known_on mid new known (survives_clean mid new reads.looks) reads.kept knows
+known_after (Err e) known reads knows = tt
+
+-- what a selection from a project's dump says, after the one that found the dump's slot
+pub by_slot : {old mid new : State} {k : Bool} {P : machine.State → List ℕ → Type 0} (project : List ℕ) (id : ℤ) (found : Option ℤ) → found ≡ Some id → Reads true old mid → Reads k mid new
+    → (HasCleanDisk mid → old.now.schema ≡ schema_two → (m : machine.State) → StandsFor old.now.trees m → IsDumpSlot old.now.trees m project found)
+    → (HasCleanDisk new → mid.now.schema ≡ schema_two → (m : machine.State) → StandsFor mid.now.trees m → (p : List ℕ) → HasSlot mid.now.trees id p Dump → P m p)
+    → HasCleanDisk new → old.now.schema ≡ schema_two → (m : machine.State) → StandsFor old.now.trees m → P m project
+by_slot {old} {mid} {new} {k} {P} project id found some first then slot says clean has m s =
+    let there = subst (IsDumpSlot old.now.trees m project) some (slot (survives_clean mid new then.looks clean) has m s) in
+    still old mid new (λ db. StandsFor db m × HasSlot db id project Dump) (λ db. P m project) first.kept then.looks (λ cleaner schema known. says cleaner schema m known.0 project known.1) clean has (s, there)
+
+-- the slot that is found is that of the project's dump
+pub dump_of_slot : (db : Trees) (m : machine.State) (s : StandsFor db m) (project : List ℕ) (found : Option ℤ) → IsSlotOf db s.parts project Dump found → IsDumpSlot db m project found
+dump_of_slot db m s project None is = no_dump db m s project is
+dump_of_slot db m s project (Some id) is = is
 
 -- the slot that is known
 pub known_slot : (s : State) (known : Option ProjectSlot) (slot : ProjectSlot) → known ≡ Some slot → IsKnown s known → HasCleanDisk s → s.now.schema ≡ schema_two → (m : machine.State) → StandsFor s.now.trees m

@@ -7,8 +7,6 @@ pub mod Commands
 pub mod CoverLists
 pub mod Crashes
 pub mod Creations
-pub mod Cuts
-pub mod Definitions
 pub mod Drops
 pub mod DumpEntries
 pub mod Empty

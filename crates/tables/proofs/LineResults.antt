@@ -1,15 +1,13 @@
 -- The row that a line has in `more`, as it's selected.
-use Rattle.std.proofs.Common.{◌≡◌, ◌⊎◌, inl, inr, ℕ, ℤ, Bool, true, List, [], ◌∷◌, ◌++◌, flat_map, length, map, Option, Some, None, is_some, codes, if◌then◌else◌, false, refl, sym, ap, subst, ◌∙◌, ◌↔◌}
+use Rattle.std.proofs.Common.{◌≡◌, inl, inr, ℕ, ℤ, Bool, true, List, [], ◌∷◌, ◌++◌, flat_map, length, map, Option, Some, None, is_some, codes, false, refl, sym, ap, subst, ◌∙◌, ◌↔◌}
 use Rattle.std.specs.List.{list_any, range_with_len}
 use Rattle.std.proofs.lemmas.Bool.{cases_Bool}
-use Rattle.sqlite.specs.Listing.{understood, reads_listing}
+use Rattle.sqlite.specs.Listing.{understood}
 use Rattle.sqlite.specs.State.{State as Store, Shown}
-use Rattle.sqlite.proofs.Callers.{IsPlain, command_of}
 use Rattle.sqlite_tied.specs.Compute.{everything}
 use Rattle.sqlite_value.specs.Order.{Row}
 use Rattle.sqlite_value.specs.declared.value.Value.TheVariants.{Int}
 use Rattle.sqlite_sql.specs.Term.{Term, col}
-use Rattle.sqlite_schema.specs.declared.command.Command.TheVariants.{Select}
 use Rattle.sqlite_trees.specs.Tree.{Trees}
 use Rattle.sqlite_rules.specs.Lists.{Has}
 use Rattle.sqlite_rules.proofs.ListLemmas.{has_contained, contains_had, has_left, has_right, has_either}
@@ -33,32 +31,23 @@ use Rattle.flatten.specs.Rows.{results_value}
 use Rattle.machine.specs.State.{State}
 use Rattle.tables.specs.Stands.{StandsFor}
 use Rattle.tables.specs.declared.more.MoreRow.{MoreRow}
-use Rattle.tables.specs.Steps.SelectionTexts.{select_more}
-use Rattle.tables.specs.Steps.Selected.{IsFirstRead, IsQuery, equals}
+use Rattle.tables.specs.declared.more.TheConstants.{SELECT_MORE}
+use Rattle.tables.specs.Steps.Selected.{IsFirstRead, equals}
 use Rattle.tables.specs.Steps.DumpEntries.{Entries, entry_values, ShowsOneOf}
 use Rattle.tables.specs.Steps.Known.{IsKnown, MoreValue, IsMore, more_value, more_values}
 use Rattle.tables.specs.TableTrees.{slot_tree}
 use Rattle.tables.proofs.DumpEntries.{typed, shows_one_of}
-use Rattle.tables.proofs.Select.{one_table}
+use Rattle.tables.proofs.Select.{IsSelect, one_table}
 use Rattle.tables.proofs.Selecting.{IsSelection, shows_one}
-use Rattle.tables.proofs.Silent.{silent}
 use Rattle.tables.proofs.Puts.{flat_has, from_flat, where_true, true_there}
 
 -- the columns of `more` for its kinds, in the rows of this place of a statement's environment
 abbrev pub more_terms : ℕ → List Term
 more_terms place = map (col place) (range_with_len 3 (length more_kinds))
 
-select_more_is : command_of (understood schema_two select_more) ≡ Select (record { lets = []; body = one_table 24 (equals ((1, 0) ∷ (2, 1) ∷ [])) (col 1 2 ∷ more_terms 1) }) (codes "line" ∷ more_names)
+pub select_more_is : IsSelect schema_two SELECT_MORE.now (one_table 24 (equals ((1, 0) ∷ (2, 1) ∷ [])) (col 1 2 ∷ more_terms 1)) (codes "line" ∷ more_names)
 unfolding understood everything
-select_more_is = refl
-
-pub select_more_plain : IsPlain (understood schema_two select_more) × (reads_listing schema_two select_more ≡ false)
-unfolding understood everything
-select_more_plain = ((refl, refl), refl)
-
-pub select_more_reads : IsQuery select_more
-unfolding understood everything
-select_more_reads = record { plain = select_more_plain.0; silent = silent select_more (λ schema base. refl) }
+select_more_is = record { is = refl; plain = (refl, refl); unlisted = refl; silent = λ schema base. refl }
 
 -- ---- one line's results
 
@@ -179,13 +168,12 @@ module _ (line : ℕ) where
     abbrev IsWanted : ℤ → Entries IsMore db m → Type 0
     IsWanted at e = (e.0.slot ≡ id) × IsAtLine e.0.value
 
-    selection : IsSelection (entry_values more_values IsMore db m) (λ at e. more_values e.0.value) IsWanted select_more (Int id ∷ number line ∷ []) 24
+    selection : IsSelection (entry_values more_values IsMore db m) (λ at e. more_values e.0.value) IsWanted SELECT_MORE.now (Int id ∷ number line ∷ []) 24
     selection = record {
       pairs = (1, 0) ∷ (2, 1) ∷ [];
       terms = col 1 2 ∷ more_terms 1;
       names = codes "line" ∷ more_names;
       is = select_more_is;
-      plain = select_more_plain;
       own = λ db. refl;
       shows = λ at e. refl;
       alike = λ at e. (tt, (tt, tt));
@@ -217,10 +205,10 @@ module _ (line : ℕ) where
   says_none s results nothing_there none = none_of more_kinds s results nothing_there none
 
   pub more_found : (m : State) (id : ℤ) (project : List ℕ) (dump : DumpValue) (old new : Store) (rows : List Row) (found : Option MoreRow) → StandsFor old.now.trees m → old.now.schema ≡ schema_two → Has (old.now.trees slot_tree) (slot_row id project Dump)
-      → m.dump project ≡ Some dump → Shown select_more (Int id ∷ number line ∷ []) old new rows → IsFirstRead more_read rows found → (results : ResultsValue) → IsKnown dump line results → Says found results
+      → m.dump project ≡ Some dump → Shown SELECT_MORE.now (Int id ∷ number line ∷ []) old new rows → IsFirstRead more_read rows found → (results : ResultsValue) → IsKnown dump line results → Says found results
   unfolding selection
   more_found m id project dump old new rows found s schema slot has shown read results known =
       let db = old.now.trees in
       says dump results known found (shows_one_of db m s IsMore more_values 24 is_owned are (λ tags. refl) project dump id slot has IsAtLine more_values more_read found
-      (shows_one (entry_values more_values IsMore db m) (λ at e. more_values e.0.value) (IsWanted db m id) more_read select_more (Int id ∷ number line ∷ []) 24 (selection db m id) (λ x. refl) old new rows schema
+      (shows_one (entry_values more_values IsMore db m) (λ at e. more_values e.0.value) (IsWanted db m id) more_read SELECT_MORE.now (Int id ∷ number line ∷ []) 24 (selection db m id) (λ x. refl) old new rows schema
       (typed db m s IsMore more_values 24 is_owned are (λ tags. refl)) shown found read))

@@ -12,11 +12,9 @@ use Rattle.sqlite_sql.specs.Program.{overlay}
 use Rattle.sqlite_exec.proofs.PartitionLemmas.{IsSorted-from_map}
 use Rattle.sqlite_rules.specs.Lists.{Has}
 use Rattle.sqlite_schema.specs.declared.schema.Schema.{Schema}
-use Rattle.sqlite_schema.specs.declared.command.Command.TheVariants.{Select}
-use Rattle.sqlite.specs.Listing.{understood, reads_listing}
 use Rattle.sqlite.specs.State.{State, Shown}
-use Rattle.sqlite.proofs.Callers.{IsPlain, command_of, reads_as}
-use Rattle.tables.proofs.Select.{passing}
+use Rattle.sqlite.proofs.Callers.{reads_as}
+use Rattle.tables.proofs.Select.{IsSelect, passing}
 use Rattle.tables.proofs.Selecting.{show}
 
 -- the rows that pass, in an order that ORDER BY allows
@@ -61,14 +59,13 @@ at_place (x ∷ xs) row d (inl e) = (zero, omega arith, sym e)
 at_place (x ∷ xs) row d (inr more) = let it = at_place xs row d more in (suc it.0, omega arith, it.2)
 
 module _ (schema : Schema) (sql : List ℕ) (params : Row) (t : ℕ) (tests shown : List Term) (order : List (Term × Key)) (limit : ℤ) (names : List (List ℕ))
-    (is : command_of (understood schema sql) ≡ Select (record { lets = []; body = in_order t tests shown order limit }) names) (plain : IsPlain (understood schema sql)) (unlisted : reads_listing schema sql ≡ false)
-    (own : (db : Trees) → overlay db [] t ≡ db t) where
+    (it : IsSelect schema sql (in_order t tests shown order limit) names) (own : (db : Trees) → overlay db [] t ≡ db t) where
   abbrev paged : List Row → List Row
   paged ordered = page (in_order t tests shown order limit) params (map (show shown params) ordered)
 
   pub selects_in_order : (old new : State) (rows : List Row) → old.now.schema ≡ schema → Shown sql params old new rows
       → (ordered : List Row) × IsInOrder tests order params (old.now.trees t) ordered × (rows ≡ paged ordered)
   selects_in_order old new rows has h =
-      let got = (reads_as sql params old new schema has _ is plain unlisted rows h).answer Null in
+      let got = (reads_as sql params old new schema has _ it.is it.plain it.unlisted rows h).answer Null in
       subst (λ xs. (ordered : List Row) × IsInOrder tests order params xs ordered × (rows ≡ paged ordered)) (own old.now.trees)
       (ordered_answer t tests shown order limit params (overlay old.now.trees []) rows got)

@@ -1,5 +1,5 @@
 -- The tags whose names begin with a text, as they are selected.
-use Rattle.std.proofs.Common.{◌≡◌, ℕ, ℤ, Bool, true, false, nat_cmp, List, [], ◌∷◌, refl, sym, ap, subst, ◌∙◌, ◌&&◌}
+use Rattle.std.proofs.Common.{◌≡◌, ℕ, ℤ, Bool, true, nat_cmp, List, [], ◌∷◌, refl, sym, ap, subst, ◌∙◌, ◌&&◌}
 use Rattle.std.proofs.Math.Bool.{and-true}
 use Rattle.std.proofs.lemmas.Bool.{and_parts}
 use Rattle.std.specs.Cmp.Derive.{both_true}
@@ -7,9 +7,8 @@ use Rattle.std.specs.List.{list_all}
 use Rattle.std.specs.Ordering.{is_ge, is_lt}
 use Rattle.std.specs.Cmp.Lexicographic.{slice_cmp}
 use Rattle.std.specs.List.Sorted.{IsPermutation}
-use Rattle.sqlite.specs.Listing.{understood, reads_listing}
+use Rattle.sqlite.specs.Listing.{understood}
 use Rattle.sqlite.specs.State.{State as Store, Shown}
-use Rattle.sqlite.proofs.Callers.{IsPlain, command_of}
 use Rattle.sqlite_tied.specs.Compute.{everything}
 use Rattle.sqlite_value.specs.declared.keys.Collation.TheVariants.{Binary}
 use Rattle.sqlite_value.specs.declared.value.Value.{Value}
@@ -20,7 +19,6 @@ use Rattle.sqlite_sql.specs.declared.ops.BinaryOp.TheVariants.{Compare}
 use Rattle.sqlite_sql.specs.declared.ops.CompareOp.TheVariants.{Ge, Lt}
 use Rattle.sqlite_sql.specs.Ops.{binary}
 use Rattle.sqlite_sql.specs.Term.{Term, col, op2, holds}
-use Rattle.sqlite_schema.specs.declared.command.Command.TheVariants.{Select}
 use Rattle.sqlite_trees.specs.Tree.{Trees}
 use Rattle.sqlite_rules.specs.Lists.{Has}
 use Rattle.machine.specs.FoundTags.{BeginsWith}
@@ -30,32 +28,23 @@ use Rattle.tables.specs.Schema.{schema_two}
 use Rattle.tables.specs.Stands.{StandsFor}
 use Rattle.tables.specs.TableTrees.{tag_tree}
 use Rattle.tables.specs.declared.found_tags.TagRow.{TagRow}
-use Rattle.tables.specs.Steps.SelectionTexts.{select_prefixed}
-use Rattle.tables.specs.Steps.Selected.{AreRead, IsQuery, Selects}
+use Rattle.tables.specs.declared.names.TheConstants.{SELECT_TAGS_OF_PREFIX}
+use Rattle.tables.specs.Steps.Selected.{AreRead, Selects}
 use Rattle.tables.specs.Steps.TagRows.{IsBehind, TellNamed, tag_row_columns}
 use Rattle.tables.proofs.FoundTags.{TagEntries, entry_row, tag_terms, tag_names, typed_tags, told_named}
 use Rattle.tables.proofs.PartRemoved.{truly}
 use Rattle.tables.proofs.Prefixes.{not_below, if_begins, before, begins_within}
 use Rattle.tables.proofs.Reading.{rows_are}
-use Rattle.tables.proofs.Select.{one_table, selects}
+use Rattle.tables.proofs.Select.{IsSelect, one_table, selects}
 use Rattle.tables.proofs.Selecting.{show, all_of, from_table, into_answer, wide_as}
-use Rattle.tables.proofs.Silent.{silent}
 
 -- `name >= ?1 AND name < ?2`
 abbrev within_prefix : List Term
 within_prefix = op2 (Compare Ge Binary) (col 1 3) (col 0 0) ∷ op2 (Compare Lt Binary) (col 1 3) (col 0 1) ∷ []
 
-select_prefixed_is : command_of (understood schema_two select_prefixed) ≡ Select (record { lets = []; body = one_table 17 within_prefix tag_terms }) tag_names
+pub select_prefixed_is : IsSelect schema_two SELECT_TAGS_OF_PREFIX.now (one_table 17 within_prefix tag_terms) tag_names
 unfolding understood everything
-select_prefixed_is = refl
-
-pub select_prefixed_plain : IsPlain (understood schema_two select_prefixed) × (reads_listing schema_two select_prefixed ≡ false)
-unfolding understood everything
-select_prefixed_plain = ((refl, refl), refl)
-
-pub select_prefixed_reads : IsQuery select_prefixed
-unfolding understood everything
-select_prefixed_reads = record { plain = select_prefixed_plain.0; silent = silent select_prefixed (λ schema base. refl) }
+select_prefixed_is = record { is = refl; plain = (refl, refl); unlisted = refl; silent = λ schema base. refl }
 
 module _ (prefix : List ℕ) (behind : Value) (is_behind : IsBehind prefix behind) where
   abbrev params : Row
@@ -99,7 +88,7 @@ module _ (prefix : List ℕ) (behind : Value) (is_behind : IsBehind prefix behin
           let is = rows_are tag_row_columns 7 (λ x. refl) rows xs (wide_as within_prefix tag_terms params (db tag_tree) rows same) read in
           told_named db m s (λ text. BeginsWith text prefix) xs (subst (Selects (entry_row db m) (λ at e. entry_row db m e) (λ at e. BeginsWith (name_of e) prefix) db 17) is all_within)
 
-  pub told_prefixed : (m : State) (old new : Store) (rows : List Row) (xs : List TagRow) → StandsFor old.now.trees m → old.now.schema ≡ schema_two → Shown select_prefixed params old new rows → AreRead tag_row_columns rows xs
+  pub told_prefixed : (m : State) (old new : Store) (rows : List Row) (xs : List TagRow) → StandsFor old.now.trees m → old.now.schema ≡ schema_two → Shown SELECT_TAGS_OF_PREFIX.now params old new rows → AreRead tag_row_columns rows xs
       → TellNamed old.now.trees m (λ text. BeginsWith text prefix) xs
   told_prefixed m old new rows xs s schema shown read =
-      told old.now.trees m s rows (selects schema_two select_prefixed params 17 within_prefix tag_terms tag_names select_prefixed_is select_prefixed_plain.0 select_prefixed_plain.1 (λ db. refl) old new rows schema shown) xs read
+      told old.now.trees m s rows (selects schema_two SELECT_TAGS_OF_PREFIX.now params 17 within_prefix tag_terms tag_names select_prefixed_is (λ db. refl) old new rows schema shown) xs read

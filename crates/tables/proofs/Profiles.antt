@@ -1,13 +1,11 @@
 -- The profile of a dump, as it is selected.
-use Rattle.std.proofs.Common.{◌≡◌, inl, inr, ℕ, ℤ, List, [], ◌∷◌, Option, Some, None, codes, false, refl, sym, ap, ◌∙◌, ◌↔◌}
-use Rattle.sqlite.specs.Listing.{understood, reads_listing}
+use Rattle.std.proofs.Common.{◌≡◌, inl, inr, ℕ, ℤ, List, [], ◌∷◌, Option, Some, None, codes, refl, sym, ap, ◌∙◌, ◌↔◌}
+use Rattle.sqlite.specs.Listing.{understood}
 use Rattle.sqlite.specs.State.{State as Store, Shown}
-use Rattle.sqlite.proofs.Callers.{IsPlain, command_of}
 use Rattle.sqlite_tied.specs.Compute.{everything}
 use Rattle.sqlite_value.specs.Order.{Row}
 use Rattle.sqlite_value.specs.declared.value.Value.TheVariants.{Int}
 use Rattle.sqlite_sql.specs.Term.{col}
-use Rattle.sqlite_schema.specs.declared.command.Command.TheVariants.{Select}
 use Rattle.sqlite_trees.specs.Tree.{Trees}
 use Rattle.sqlite_rules.specs.Lists.{Has}
 use Rattle.lsif.specs.declared.profile.Profile.{Profile}
@@ -21,26 +19,17 @@ use Rattle.tables.specs.Columns.{dump_rows, profile_columns}
 use Rattle.tables.specs.Contents.{owned, slot_row}
 use Rattle.machine.specs.State.{State}
 use Rattle.tables.specs.Stands.{StandsFor}
-use Rattle.tables.specs.Steps.SelectionTexts.{select_profile}
-use Rattle.tables.specs.Steps.Selected.{IsFirstRead, IsQuery, equals}
+use Rattle.tables.specs.declared.parts.TheConstants.{SELECT_PROFILE}
+use Rattle.tables.specs.Steps.Selected.{IsFirstRead, equals}
 use Rattle.tables.specs.Steps.DumpEntries.{Entries, entry_values, ShowsOneOf}
 use Rattle.tables.specs.TableTrees.{slot_tree}
 use Rattle.tables.proofs.DumpEntries.{typed, shows_one_of}
-use Rattle.tables.proofs.Select.{one_table}
+use Rattle.tables.proofs.Select.{IsSelect, one_table}
 use Rattle.tables.proofs.Selecting.{IsSelection, shows_one}
-use Rattle.tables.proofs.Silent.{silent}
 
-select_profile_is : command_of (understood schema_two select_profile) ≡ Select (record { lets = []; body = one_table 22 (equals ((1, 0) ∷ [])) (col 1 2 ∷ []) }) (codes "profile" ∷ [])
+pub select_profile_is : IsSelect schema_two SELECT_PROFILE.now (one_table 22 (equals ((1, 0) ∷ [])) (col 1 2 ∷ [])) (codes "profile" ∷ [])
 unfolding understood everything
-select_profile_is = refl
-
-pub select_profile_plain : IsPlain (understood schema_two select_profile) × (reads_listing schema_two select_profile ≡ false)
-unfolding understood everything
-select_profile_plain = ((refl, refl), refl)
-
-pub select_profile_reads : IsQuery select_profile
-unfolding understood everything
-select_profile_reads = record { plain = select_profile_plain.0; silent = silent select_profile (λ schema base. refl) }
+select_profile_is = record { is = refl; plain = (refl, refl); unlisted = refl; silent = λ schema base. refl }
 
 abbrev IsProfile : DumpValue → Profile → Type 0
 IsProfile dump profile = dump.profile ≡ profile
@@ -69,13 +58,12 @@ module _ (db : Trees) (m : State) (s : StandsFor db m) (id : ℤ) where
   abbrev IsWanted : ℤ → Entries IsProfile db m → Type 0
   IsWanted at e = (e.0.slot ≡ id) × Matches e.0.value
 
-  selection : IsSelection (entry_values profile_columns IsProfile db m) (λ at e. profile_columns e.0.value) IsWanted select_profile (Int id ∷ []) 22
+  selection : IsSelection (entry_values profile_columns IsProfile db m) (λ at e. profile_columns e.0.value) IsWanted SELECT_PROFILE.now (Int id ∷ []) 22
   selection = record {
     pairs = (1, 0) ∷ [];
     terms = col 1 2 ∷ [];
     names = codes "profile" ∷ [];
     is = select_profile_is;
-    plain = select_profile_plain;
     own = λ db. refl;
     shows = λ at e. refl;
     alike = λ at e. (tt, tt);
@@ -87,12 +75,12 @@ is_owned : Has owned 22
 is_owned = inr (inr (inr (inr (inr (inr (inr (inl refl)))))))
 
 pub profile_found : (m : State) (id : ℤ) (project : List ℕ) (dump : DumpValue) (old new : Store) (rows : List Row) (found : Option Profile) → StandsFor old.now.trees m → old.now.schema ≡ schema_two → Has (old.now.trees slot_tree) (slot_row id project Dump)
-    → m.dump project ≡ Some dump → Shown select_profile (Int id ∷ []) old new rows → IsFirstRead profile_columns rows found → found ≡ Some dump.profile
+    → m.dump project ≡ Some dump → Shown SELECT_PROFILE.now (Int id ∷ []) old new rows → IsFirstRead profile_columns rows found → found ≡ Some dump.profile
 unfolding selection
 profile_found m id project dump old new rows found s schema slot has shown read =
     let db = old.now.trees in
     it found (shows_one_of db m s IsProfile profile_columns 22 is_owned are (λ tags. refl) project dump id slot has Matches profile_columns profile_columns found
-    (shows_one (entry_values profile_columns IsProfile db m) (λ at e. profile_columns e.0.value) (IsWanted db m s id) profile_columns select_profile (Int id ∷ []) 22 (selection db m s id) (λ x. refl) old new rows schema
+    (shows_one (entry_values profile_columns IsProfile db m) (λ at e. profile_columns e.0.value) (IsWanted db m s id) profile_columns SELECT_PROFILE.now (Int id ∷ []) 22 (selection db m s id) (λ x. refl) old new rows schema
     (typed db m s IsProfile profile_columns 22 is_owned are (λ tags. refl)) shown found read))
   where
     it : (o : Option Profile) → ShowsOneOf profile_columns (IsProfile dump) Matches profile_columns o → o ≡ Some dump.profile

@@ -7,14 +7,12 @@ use Rattle.std.specs.Cmp.{IsTotalOrder}
 use Rattle.std.specs.Cmp.Lexicographic.{on_texts, texts_ties}
 use Rattle.std.specs.String.{string_eq}
 use Rattle.std.specs.Ordering.{eq_by_cmp}
-use Rattle.sqlite.specs.Listing.{understood, reads_listing}
+use Rattle.sqlite.specs.Listing.{understood}
 use Rattle.sqlite.specs.State.{State as Store, Shown}
-use Rattle.sqlite.proofs.Callers.{IsPlain, command_of}
 use Rattle.sqlite_tied.specs.Compute.{everything}
 use Rattle.sqlite_value.specs.Order.{Row}
 use Rattle.sqlite_value.specs.declared.value.Value.TheVariants.{Text}
 use Rattle.sqlite_sql.specs.Term.{col}
-use Rattle.sqlite_schema.specs.declared.command.Command.TheVariants.{Select}
 use Rattle.sqlite_trees.specs.Tree.{Trees}
 use Rattle.sqlite_rules.specs.Lists.{Has}
 use Rattle.sqlite_rules.proofs.ListLemmas.{has_contained, contains_had}
@@ -34,27 +32,18 @@ use Rattle.machine.specs.Projects.{ProjectValue, text_cmp}
 use Rattle.machine.specs.Found.{project_found}
 use Rattle.machine.specs.Selections.{FindsProjects}
 use Rattle.machine.specs.declared.found.FoundProject.{FoundProject}
-use Rattle.tables.specs.Steps.SelectionTexts.{select_projects}
-use Rattle.tables.specs.Steps.Selected.{AreRead, IsQuery, Selects, equals}
+use Rattle.tables.specs.declared.projects.TheConstants.{SELECT_PROJECTS}
+use Rattle.tables.specs.Steps.Selected.{AreRead, Selects, equals}
 use Rattle.tables.specs.Steps.Slots.{IsSlotOf, HasPart, IsTold}
 use Rattle.tables.proofs.DumpEntries.{dump_of, tags_of, rows_of, rows_of_tags}
 use Rattle.tables.proofs.FoundSlots.{SlotEntry, slot_values, typed_slots}
 use Rattle.tables.proofs.Keeping.{none_is_some, from_map, to_map, which_part, slot_is}
-use Rattle.tables.proofs.Select.{one_table}
+use Rattle.tables.proofs.Select.{IsSelect, one_table}
 use Rattle.tables.proofs.Selecting.{IsSelection, selects_typed, of_all, all_last}
-use Rattle.tables.proofs.Silent.{silent}
 
-select_projects_is : command_of (understood schema_two select_projects) ≡ Select (record { lets = []; body = one_table 1 (equals []) (col 1 2 ∷ []) }) (codes "project" ∷ [])
+pub select_projects_is : IsSelect schema_two SELECT_PROJECTS.now (one_table 1 (equals []) (col 1 2 ∷ [])) (codes "project" ∷ [])
 unfolding understood everything
-select_projects_is = refl
-
-pub select_projects_plain : IsPlain (understood schema_two select_projects) × (reads_listing schema_two select_projects ≡ false)
-unfolding understood everything
-select_projects_plain = ((refl, refl), refl)
-
-pub select_projects_reads : IsQuery select_projects
-unfolding understood everything
-select_projects_reads = record { plain = select_projects_plain.0; silent = silent select_projects (λ schema base. refl) }
+select_projects_is = record { is = refl; plain = (refl, refl); unlisted = refl; silent = λ schema base. refl }
 
 -- ---- the order
 
@@ -81,13 +70,12 @@ name_shown id e = Text e.project ∷ []
 abbrev IsAny : ℤ → SlotEntry → Type 0
 IsAny id e = Unit {0}
 
-selection : IsSelection slot_values name_shown IsAny select_projects [] 1
+selection : IsSelection slot_values name_shown IsAny SELECT_PROJECTS.now [] 1
 selection = record {
   pairs = [];
   terms = col 1 2 ∷ [];
   names = codes "project" ∷ [];
   is = select_projects_is;
-  plain = select_projects_plain;
   own = λ db. refl;
   shows = λ id e. refl;
   alike = λ id e. tt;
@@ -110,12 +98,12 @@ have_parts db parts replies is xs found v = (
       contains_had (map string_bytes xs) v (subst (Has (map string_bytes xs)) same (to_map string_bytes xs x.0 x.1))),
 )
 
-pub names_found : (old new : Store) (rows : List Row) (found listed : List (String Global)) (parts : Contents) (replies : Replies) → Keeps old.now.trees parts replies → old.now.schema ≡ schema_two → Shown select_projects [] old new rows → AreRead name_columns rows found
+pub names_found : (old new : Store) (rows : List Row) (found listed : List (String Global)) (parts : Contents) (replies : Replies) → Keeps old.now.trees parts replies → old.now.schema ≡ schema_two → Shown SELECT_PROJECTS.now [] old new rows → AreRead name_columns rows found
     → IsListing text_cmp (Contains (map string_bytes found)) (map string_bytes listed) → IsListing text_cmp (HasPart parts) (map string_bytes listed)
 unfolding selection
 names_found old new rows found listed parts replies is schema shown read list =
     same_listing text_cmp _ _ (map string_bytes listed) (have_parts old.now.trees parts replies is found
-    (selects_typed slot_values name_shown IsAny name_columns select_projects [] 1 selection (λ x. refl) old new rows schema (typed_slots old.now.trees parts replies is) shown found read)) list
+    (selects_typed slot_values name_shown IsAny name_columns SELECT_PROJECTS.now [] 1 selection (λ x. refl) old new rows schema (typed_slots old.now.trees parts replies is) shown found read)) list
 
 abbrev pub names_of : List FoundProject → List (List ℕ)
 names_of found = map (λ (p : FoundProject). string_bytes p.name) found

@@ -13,10 +13,8 @@ use Rattle.sqlite_trees.specs.Tree.{Trees, rowid, put_row}
 use Rattle.sqlite_trees.proofs.TreeLemmas.{IsTable-put_row}
 use Rattle.sqlite_sql.specs.Term.{Term}
 use Rattle.sqlite_schema.specs.declared.schema.Table.{Table}
-use Rattle.sqlite_schema.specs.declared.schema.Keys.TheVariants.{Enforced}
 use Rattle.sqlite_schema.specs.declared.command.Source.TheVariants.{Values}
 use Rattle.sqlite_schema.specs.declared.command.Command.TheVariants.{Insert}
-use Rattle.sqlite_rules.specs.Action.{works}
 use Rattle.sqlite_rules.specs.Edit.{next_rowid, put_all}
 use Rattle.sqlite_rules.specs.Lists.{Has}
 use Rattle.sqlite_rules.proofs.ListLemmas.{has_left, has_right, has_either, all_has}
@@ -164,7 +162,7 @@ module _ (text : List ℕ) (tree : ℕ) (values : Row) (rows : List Row) (it : I
   taken = it.taken ∙ ap (map (λ v. Null ∷ v)) it.some
 
   inserted : (old new : State) (count : ℕ) → old.now.schema ≡ schema_two → Executes text values old new (Ok count) → Inserted schema_two (plainly it.table) (map (λ v. Null ∷ v) (it.first ∷ it.rest)) old new
-  inserted = inserts schema_two text values it.at it.table it.terms it.width it.is it.plain it.placed it.quiet (Null ∷ it.first) (map (λ v. Null ∷ v) it.rest) taken
+  inserted = inserts schema_two text values it.at it.table it.terms it.width it.is it.plain it.placed (Null ∷ it.first) (map (λ v. Null ∷ v) it.rest) taken
 
   pub put_rows : (old new : State) (r : Result ℕ Error) → old.now.schema ≡ schema_two → IsTrue old.in_transaction → ExecutesInside 0 text values old new r → OnOk r (Steps (PutsAll tree rows) old new)
   put_rows old new (Err e) has inside h = tt
@@ -183,13 +181,12 @@ module _ (text : List ℕ) (tree : ℕ) (values : Row) (rows : List Row) (it : I
 module _ (sql : List ℕ) (params : Row) (at : ℕ) (t : Table) (terms : List Term) (width : ℕ)
     (is : command_of (understood schema_two sql) ≡ Insert at (Values terms width)) (plain : IsPlain (understood schema_two sql))
     (placed : slice_get schema_two.tables at ≡ Some (plainly t))
-    (quiet : (row : Row) (more : List Row) → works schema_two Enforced 0 t.tree [] (row ∷ more) ≡ [])
     (values : Row)
     (cast : map (cast_row (plainly t)) (value_rows params width (length terms / width) terms) ≡ (Null ∷ values) ∷ []) where
   pub put_at : (old new : State) (r : Result ℕ Error) → old.now.schema ≡ schema_two → IsTrue old.in_transaction → ExecutesInside 0 sql params old new r → OnOk r (Steps (Puts t.tree new.last_rowid values) old new)
   put_at old new (Err e) has inside h = tt
   put_at old new (Ok count) has inside h =
-      let it = inserts schema_two sql params at t terms width is plain placed quiet (Null ∷ values) [] cast old new count has h.0 in
+      let it = inserts schema_two sql params at t terms width is plain placed (Null ∷ values) [] cast old new count has h.0 in
       let was = old.now.trees t.tree in
       let id = it.last (next_rowid was) refl in
       let put = put_in (plainly t) (values ∷ []) old new it in

@@ -9,9 +9,8 @@ use Rattle.std.proofs.lemmas.Bool.{cases_lt}
 use Rattle.std.proofs.lemmas.Cmp.{nat_list_cmp_total, tied_itself}
 use Rattle.std.proofs.lemmas.Int.{ints}
 use Rattle.std.proofs.lemmas.Map.Lookups.{exact_bytes}
-use Rattle.sqlite.specs.Listing.{understood, reads_listing}
+use Rattle.sqlite.specs.Listing.{understood}
 use Rattle.sqlite.specs.State.{State as Store, Shown}
-use Rattle.sqlite.proofs.Callers.{IsPlain, command_of}
 use Rattle.sqlite_tied.specs.Compute.{everything}
 use Rattle.sqlite_value.specs.declared.keys.Collation.TheVariants.{Binary}
 use Rattle.sqlite_value.specs.declared.keys.Key.{Key}
@@ -23,13 +22,13 @@ use Rattle.sqlite_sql.specs.declared.ops.CompareOp.TheVariants.{Le, Gt}
 use Rattle.sqlite_sql.specs.Ops.{binary}
 use Rattle.sqlite_sql.specs.Query.{sort_cmp}
 use Rattle.sqlite_sql.specs.Term.{Term, col, op2, holds}
-use Rattle.sqlite_schema.specs.declared.command.Command.TheVariants.{Select}
 use Rattle.sqlite_trees.specs.Tree.{Trees}
 use Rattle.sqlite_rules.specs.Lists.{Has}
 use Rattle.positions.specs.Position.{PositionValue, IsPosition, packed_of}
 use Rattle.dump.specs.Progress.{DumpValue}
 use Rattle.flatten.specs.Flat.{RangeRowValue}
 use Rattle.flatten.proofs.Intervals.{before_packed, packed_before}
+use Rattle.tables.proofs.Select.{IsSelect}
 use Rattle.tables.specs.declared.slots.Part.TheVariants.{Dump}
 use Rattle.tables.specs.Columns.{number, position, range_columns}
 use Rattle.tables.specs.Contents.{slot_row}
@@ -40,8 +39,8 @@ use Rattle.tables.specs.declared.range_rows.SlotRange.{SlotRange}
 use Rattle.tables.specs.Steps.Climbs.{IsStart, IsStarted, ComesBefore}
 use Rattle.tables.specs.Steps.DumpEntries.{Entries, entry_values}
 use Rattle.tables.specs.Steps.Queries.{same}
-use Rattle.tables.specs.Steps.Selected.{IsFirstRead, IsQuery}
-use Rattle.tables.specs.Steps.SelectionTexts.{select_start}
+use Rattle.tables.specs.Steps.Selected.{IsFirstRead}
+use Rattle.tables.specs.declared.range_rows.TheConstants.{SELECT_START}
 use Rattle.tables.specs.TableTrees.{range_row_tree, slot_tree}
 use Rattle.tables.proofs.DumpEntries.{typed, held, in_dump, entry}
 use Rattle.tables.proofs.FirstRows.{IsFirst, first_is}
@@ -52,7 +51,6 @@ use Rattle.tables.proofs.Ordered.{in_order, selects_in_order}
 use Rattle.tables.proofs.PartRemoved.{truly}
 use Rattle.tables.proofs.Reading.{columns_are}
 use Rattle.tables.proofs.Selecting.{show}
-use Rattle.tables.proofs.Silent.{silent}
 use Rattle.tables.proofs.Cascade.{equal_is}
 
 -- `slot = ?1 AND uri = ?2 AND first <= ?3 AND last > first`
@@ -63,17 +61,9 @@ start_tests = same (col 1 1) (col 0 0) ∷ same (col 1 3) (col 0 1) ∷ op2 (Com
 abbrev start_order : List (Term × Key)
 start_order = (col 1 4, record { collation = Binary; descending = true }) ∷ (col 1 5, record { collation = Binary; descending = false }) ∷ []
 
-select_start_is : command_of (understood schema_two select_start) ≡ Select (record { lets = []; body = in_order 7 start_tests range_terms start_order (pos 1) }) range_names
+pub select_start_is : IsSelect schema_two SELECT_START.now (in_order 7 start_tests range_terms start_order (pos 1)) range_names
 unfolding understood everything
-select_start_is = refl
-
-pub select_start_plain : IsPlain (understood schema_two select_start) × (reads_listing schema_two select_start ≡ false)
-unfolding understood everything
-select_start_plain = ((refl, refl), refl)
-
-pub select_start_reads : IsQuery select_start
-unfolding understood everything
-select_start_reads = record { plain = select_start_plain.0; silent = silent select_start (λ schema base. refl) }
+select_start_is = record { is = refl; plain = (refl, refl); unlisted = refl; silent = λ schema base. refl }
 
 -- ---- numbers and texts that are compared
 
@@ -230,8 +220,8 @@ module _ (db : Trees) (m : State) (s : StandsFor db m) (project : List ℕ) (dum
       )
 
 pub start_found : (m : State) (id : ℤ) (project : List ℕ) (dump : DumpValue) (uri : List ℕ) (p : PositionValue) (old new : Store) (rows : List Row) (found : Option SlotRange) → IsPosition p → StandsFor old.now.trees m → old.now.schema ≡ schema_two
-    → Has (old.now.trees slot_tree) (slot_row id project Dump) → m.dump project ≡ Some dump → Shown select_start (Int id ∷ Text uri ∷ position p ∷ []) old new rows → IsFirstRead found_columns rows found → IfSome found IsSound → IsStart dump uri p found
+    → Has (old.now.trees slot_tree) (slot_row id project Dump) → m.dump project ≡ Some dump → Shown SELECT_START.now (Int id ∷ Text uri ∷ position p ∷ []) old new rows → IsFirstRead found_columns rows found → IfSome found IsSound → IsStart dump uri p found
 start_found m id project dump uri p old new rows found good s schema slot has shown read sound =
     let params = Int id ∷ Text uri ∷ position p ∷ [] in
-    let it = selects_in_order schema_two select_start params 7 start_tests range_terms start_order (pos 1) range_names select_start_is select_start_plain.0 select_start_plain.1 (λ db. refl) old new rows schema shown in
+    let it = selects_in_order schema_two SELECT_START.now params 7 start_tests range_terms start_order (pos 1) range_names select_start_is (λ db. refl) old new rows schema shown in
     start_is old.now.trees m s project dump id slot has uri p good rows found (first_is start_tests range_terms start_order params (old.now.trees range_row_tree) it.0 rows it.1 it.2) read sound

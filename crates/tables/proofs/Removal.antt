@@ -1,5 +1,5 @@
 -- What DELETE FROM slot leaves.
-use Rattle.std.proofs.Common.{length, unwrap_or, ◌≡◌, ◌≢◌, inl, inr, ℕ, ℤ, List, [], ◌∷◌, ◌++◌, map, flat_map, Bool, true, false, Some, None, Ok, Option, refl, sym, ap, subst, ◌∙◌, if◌then◌else◌}
+use Rattle.std.proofs.Common.{length, unwrap_or, ◌≡◌, ◌≢◌, inl, inr, ℕ, ℤ, List, [], ◌∷◌, ◌++◌, map, Bool, true, false, Some, None, Ok, Option, refl, sym, ap, subst, ◌∙◌, if◌then◌else◌}
 use Rattle.std.specs.List.{AllByRecursion, list_any, filter_map, cons_option}
 use Rattle.std.proofs.lemmas.List.{length-map}
 use Rattle.sqlite_value.specs.Order.{Row}
@@ -10,7 +10,7 @@ use Rattle.sqlite_schema.specs.declared.schema.Keys.TheVariants.{Enforced}
 use Rattle.sqlite_rules.specs.declared.action.Deed.TheVariants.{Delete}
 use Rattle.sqlite_rules.specs.Lists.{Has}
 use Rattle.sqlite_rules.specs.Action.{Writes, pairs, loses, Work, works, work_for}
-use Rattle.sqlite_rules.proofs.ListLemmas.{has_either, all_has}
+use Rattle.sqlite_rules.proofs.ListLemmas.{all_has}
 use Rattle.sqlite_value.specs.Keys.{plain}
 use Rattle.sqlite_tied.specs.Compute.{everything}
 use Rattle.tables.specs.Steps.Queries.{by_project_and_part}
@@ -19,8 +19,8 @@ use Rattle.tables.proofs.Cascade.{IsLeaf, Cut, taken_ordered, cascades}
 use Rattle.tables.proofs.Insert.{went, same_value, concluded, counted, plain_mode}
 use Rattle.tables.specs.Contents.{owned}
 use Rattle.tables.proofs.Keeping.{is_owned}
-use Rattle.tables.proofs.Commands.{delete_slot_is, delete_slot_plain}
-use Rattle.tables.specs.Steps.Texts.{delete_slot}
+use Rattle.tables.proofs.Commands.{delete_slot_is}
+use Rattle.tables.specs.declared.slots.TheConstants.{DELETE_FROM_SLOT}
 use Rattle.sqlite_schema.specs.declared.command.Command.TheVariants.{Delete as Removes}
 use Rattle.sqlite.specs.Effect.{Database}
 use Rattle.sqlite.specs.Listing.{understood}
@@ -161,10 +161,10 @@ does : (params : Row) (limit : Option ℕ) (db : Database) (text : List ℕ) (ta
 does params limit db text tally after has h up =
     on_rows params limit db tally after (subst (λ s. Does limit plain_mode params (record db { schema = s }) text None (Removes 1 (removal params by_project_and_part limit)) (Ok (tally, after))) has h) up
 
-pub removes : (old new : State) (project : List ℕ) (part : ℤ) (count : ℕ) → old.now.schema ≡ schema_two → AllOrdered schema_two old.now.trees → Executes delete_slot (Words project ∷ Int part ∷ []) old new (Ok count)
+pub removes : (old new : State) (project : List ℕ) (part : ℤ) (count : ℕ) → old.now.schema ≡ schema_two → AllOrdered schema_two old.now.trees → Executes DELETE_FROM_SLOT.now (Words project ∷ Int part ∷ []) old new (Ok count)
     → (new.now.schema ≡ schema_two) × ((r : Removed (Words project ∷ Int part ∷ []) by_project_and_part old.now.trees new.now.trees) × (count ≡ length r.rows))
 removes old new project part count has up h =
     let params = Words project ∷ Int part ∷ [] in
-    let w = runs_as delete_slot params old new schema_two has (Removes 1 (removal params by_project_and_part old.step_limit)) delete_slot_is delete_slot_plain count h in
-    let it = does params old.step_limit old.now (statement_of delete_slot (understood schema_two delete_slot)) w.tally new.now has w.changed up in
+    let w = runs_as DELETE_FROM_SLOT.now params old new schema_two has (Removes 1 (removal params by_project_and_part old.step_limit)) delete_slot_is.is delete_slot_is.plain count h in
+    let it = does params old.step_limit old.now (statement_of DELETE_FROM_SLOT.now (understood schema_two DELETE_FROM_SLOT.now)) w.tally new.now has w.changed up in
     (it.0, (it.1.0, w.counted ∙ ap (λ (o : Option ℕ). unwrap_or o 0) it.1.1))

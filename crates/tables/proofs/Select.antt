@@ -15,6 +15,9 @@ use Rattle.sqlite_schema.specs.declared.command.Command.TheVariants.{Select}
 use Rattle.sqlite.specs.Listing.{understood, reads_listing}
 use Rattle.sqlite.specs.State.{State, Shown}
 use Rattle.tables.specs.Databases.{chosen}
+use Rattle.tables.specs.Schema.{schema_two}
+use Rattle.tables.specs.Steps.Selected.{IsQuery}
+use Rattle.tables.proofs.Silent.{ReturnsNothing, silent}
 use Rattle.sqlite.proofs.Callers.{IsPlain, command_of, reads_as}
 
 abbrev pub collated_table : List Collation → ℕ → List Term → List Term → Query
@@ -22,6 +25,17 @@ collated_table cs t tests shown = record { from = inner t end; filter = tests; g
 
 abbrev pub one_table : ℕ → List Term → List Term → Query
 one_table = collated_table []
+
+-- over this schema the text is this query, and doesn't read the time; and whatever the schema, it
+-- has no RETURNING
+pub record IsSelect (schema : Schema) (sql : List ℕ) (query : Query) (names : List (List ℕ)) : Type 0 where
+  pub is : command_of (understood schema sql) ≡ Select (record { lets = []; body = query }) names
+  pub plain : IsPlain (understood schema sql)
+  pub unlisted : reads_listing schema sql ≡ false
+  pub silent : ReturnsNothing sql
+
+pub reads : {sql : List ℕ} {query : Query} {names : List (List ℕ)} → IsSelect schema_two sql query names → IsQuery sql
+reads {sql} it = record { plain = it.plain; silent = silent sql it.silent }
 
 -- the rows that pass, and what is shown of each
 abbrev pub passing : List Term → Row → List Row → List Row
@@ -51,10 +65,8 @@ answers cs t tests shown params db rows a =
     let moved = IsPermutation-map (λ (o : Output). o.1) a.kept a.ordered a.same in
     subst (λ xs. IsPermutation xs rows) all (subst (IsPermutation (map (λ (o : Output). o.1) a.kept)) (sym a.shown) moved)
 
-module _ (schema : Schema) (sql : List ℕ) (params : Row) (t : ℕ) (tests shown : List Term) (names : List (List ℕ))
-    (is : command_of (understood schema sql) ≡ Select (record { lets = []; body = one_table t tests shown }) names) (plain : IsPlain (understood schema sql)) (unlisted : reads_listing schema sql ≡ false)
-    (own : (db : Trees) → overlay db [] t ≡ db t) where
+module _ (schema : Schema) (sql : List ℕ) (params : Row) (t : ℕ) (tests shown : List Term) (names : List (List ℕ)) (it : IsSelect schema sql (one_table t tests shown) names) (own : (db : Trees) → overlay db [] t ≡ db t) where
   pub selects : (old new : State) (rows : List Row) → old.now.schema ≡ schema → Shown sql params old new rows → IsPermutation (chosen tests shown params (old.now.trees t)) rows
   selects old new rows has h =
-      let got = (reads_as sql params old new schema has _ is plain unlisted rows h).answer Null in
+      let got = (reads_as sql params old new schema has _ it.is it.plain it.unlisted rows h).answer Null in
       subst (λ xs. IsPermutation (chosen tests shown params xs) rows) (own old.now.trees) (answers [] t tests shown params (overlay old.now.trees []) rows got)

@@ -1,5 +1,5 @@
 -- From the rows of an answer to the values that they are read as.
-use Rattle.std.proofs.Common.{◌≡◌, inl, inr, ℕ, ℤ, true, false, List, [], ◌∷◌, ◌++◌, length, map, Option, Some, None, refl, sym, ap, subst, ◌∙◌, arith}
+use Rattle.std.proofs.Common.{◌≡◌, inl, inr, ℕ, ℤ, true, List, [], ◌∷◌, ◌++◌, length, map, Option, Some, None, refl, sym, ap, subst, ◌∙◌, arith}
 use Rattle.std.specs.List.{list_all, AllByRecursion}
 use Rattle.std.specs.List.Sorted.{IsPermutation}
 use Rattle.std.proofs.lemmas.List.Sorted.{IsPermutation-sym}
@@ -8,16 +8,13 @@ use Rattle.sqlite_value.specs.Order.{Row}
 use Rattle.sqlite_trees.specs.Tree.{Trees}
 use Rattle.sqlite_sql.specs.Term.{Term, Env, eval_all, holds}
 use Rattle.sqlite_sql.specs.Program.{overlay}
-use Rattle.sqlite_schema.specs.declared.command.Command.TheVariants.{Select}
 use Rattle.sqlite_rules.specs.Lists.{Has}
 use Rattle.sqlite_rules.proofs.ListLemmas.{has_filtered, has_kept}
-use Rattle.sqlite.specs.Listing.{understood, reads_listing}
 use Rattle.sqlite.specs.State.{State, Shown}
-use Rattle.sqlite.proofs.Callers.{IsPlain, command_of}
 use Rattle.tables.specs.Databases.{chosen}
 use Rattle.tables.specs.Schema.{schema_two}
 use Rattle.tables.specs.Steps.Selected.{AreRead, IsFirstRead, AreTyped, IsWanted, Selects, ShowsOne, equals}
-use Rattle.tables.proofs.Select.{one_table, selects}
+use Rattle.tables.proofs.Select.{IsSelect, one_table, selects}
 use Rattle.tables.proofs.Keeping.{from_map, to_map}
 use Rattle.tables.proofs.PartRemoved.{has_permuted}
 use Rattle.tables.proofs.Reading.{rows_are, columns_are}
@@ -62,8 +59,7 @@ pub record IsSelection {E : Type 0} (values : E → Row) (shown : ℤ → E → 
   pub pairs : List (ℕ × ℕ)
   pub terms : List Term
   pub names : List (List ℕ)
-  pub is : command_of (understood schema_two sql) ≡ Select (record { lets = []; body = one_table t (equals pairs) terms }) names
-  pub plain : IsPlain (understood schema_two sql) × (reads_listing schema_two sql ≡ false)
+  pub is : IsSelect schema_two sql (one_table t (equals pairs) terms) names
   pub own : (db : Trees) → overlay db [] t ≡ db t
   pub shows : (id : ℤ) (e : E) → show terms params (Int id ∷ values e) ≡ shown id e
   pub alike : (id : ℤ) (e : E) → AllAlike pairs params (Int id ∷ values e)
@@ -76,7 +72,7 @@ module _ {E X : Type 0} (values : E → Row) (shown : ℤ → E → Row) (Wanted
   db = old.now.trees
 
   same : IsPermutation (chosen (equals it.pairs) it.terms params (db t)) rows
-  same = selects schema_two sql params t (equals it.pairs) it.terms it.names it.is it.plain.0 it.plain.1 it.own old new rows has h
+  same = selects schema_two sql params t (equals it.pairs) it.terms it.names it.is it.own old new rows has h
 
   each_row : (r : Row) → Has rows r → (e : E) × (it : IsWanted values Wanted db t e) × (r ≡ shown it.0.0 e)
   each_row r there =

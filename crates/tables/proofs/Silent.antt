@@ -9,7 +9,7 @@ use Rattle.sqlite_resolve.specs.declared.error.CompileError.TheVariants.{NoSuchT
 use Rattle.sqlite_resolve.specs.Lowering.{Checked, and_then}
 use Rattle.sqlite_resolve.specs.Compile.{first, compiled, command, planned, meaning, returning, with_command}
 use Rattle.sqlite_resolve.specs.declared.compiled.Compiled.{Compiled}
-use Rattle.sqlite.specs.Given.{IsPlain, Returns}
+use Rattle.sqlite.specs.Given.{Returns}
 use Rattle.sqlite.specs.Listing.{understood, if_select, is_select, listing_schema, reads_listing}
 use Rattle.sqlite.specs.State.{State, CommitsShowing}
 use Rattle.tables.specs.Steps.Selected.{IsSilent}
@@ -47,10 +47,6 @@ if_select_silent (Err e) h = tt
 pub silent : (sql : List ℕ) → ReturnsNothing sql → (schema : Schema) → IsSilent (understood schema sql)
 unfolding understood
 silent sql h schema = either (reads_listing schema sql) (if_select (compiled listing_schema sql)) (compiled schema sql) (if_select_silent (compiled listing_schema sql) (compiled_silent listing_schema sql h)) (compiled_silent schema sql h)
-
-pub plain_silent : (r : Checked Compiled) → IsPlain r → IsSilent r
-plain_silent (Ok c) h = h.0
-plain_silent (Err e) h = tt
 
 pub never_returns : (r : Checked Compiled) → IsSilent r → Returns r → ⊥
 never_returns (Ok c) silent some = absurd (let e = subst IsSome silent some in cc)

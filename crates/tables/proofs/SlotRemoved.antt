@@ -7,7 +7,7 @@ use Rattle.sqlite_rules.specs.Lists.{Has}
 use Rattle.sqlite_rules.specs.Edit.{id_in}
 use Rattle.sqlite.specs.declared.error.Error.{Error}
 use Rattle.sqlite.specs.State.{State, ExecutesInside}
-use Rattle.tables.specs.Steps.Texts.{delete_slot}
+use Rattle.tables.specs.declared.slots.TheConstants.{DELETE_FROM_SLOT}
 use Rattle.tables.specs.Schema.{schema_two}
 use Rattle.tables.specs.Steps.Queries.{by_project_and_part}
 use Rattle.tables.specs.Steps.Puts.{GoesOn}
@@ -46,7 +46,7 @@ module _ (parts : Contents) (replies : Replies) (p : List ℕ) (k : Part) (old n
         absurd (none_is_some (sym none ∙ (ap (λ (q : List ℕ). parts q k) at.0 ∙ (ap (parts s.project) at.1 ∙ s.has))))
   ]
 
-pub drop_ok : (project : List ℕ) (part : Part) (old new : State) (r : Result ℕ Error) → old.now.schema ≡ schema_two → ExecutesInside 0 delete_slot (Text project ∷ Int (part_number part) ∷ []) old new r
+pub drop_ok : (project : List ℕ) (part : Part) (old new : State) (r : Result ℕ Error) → old.now.schema ≡ schema_two → ExecutesInside 0 DELETE_FROM_SLOT.now (Text project ∷ Int (part_number part) ∷ []) old new r
     → (parts : Contents) (replies : Replies) → Keeps old.now.trees parts replies → IfOk r (λ count. GoesOn old new × Keeps new.now.trees (changed parts project part None) replies × ((count ≡ 0) ↔ (parts project part ≡ None)))
 drop_ok project part old new (Err e) has h parts replies is = tt
 drop_ok project part old new (Ok count) has h parts replies is =

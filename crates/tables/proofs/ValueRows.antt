@@ -1,13 +1,12 @@
 -- The rows that an INSERT makes of its values: each takes the next ones, behind a rowid that is
 -- chosen for it.
-use Rattle.std.proofs.Common.{◌≡◌, ◌∙◌, ◌++◌, ◌+◌, ℕ, zero, suc, List, [], ◌∷◌, length, map, take, drop, flat_map, append_assoc, append-nil, length-append, add-zero, refl, sym, ap, arith}
+use Rattle.std.proofs.Common.{◌≡◌, ◌∙◌, ◌++◌, ◌+◌, ℕ, zero, suc, List, [], ◌∷◌, length, map, take, drop, flat_map, append_assoc, length-append, refl, sym, ap}
 use Rattle.std.specs.List.{range_with_len}
 use Rattle.std.proofs.lemmas.List.{take_at, drop_at}
-use Rattle.std.proofs.lemmas.List.FromFn.{length-range_with_len}
 use Rattle.sqlite_value.specs.declared.value.Value.{Value}
 use Rattle.sqlite_value.specs.declared.value.Value.TheVariants.{Null}
 use Rattle.sqlite_value.specs.Order.{Row, column}
-use Rattle.sqlite_sql.specs.Term.{Term, eval, eval_all, col, lit}
+use Rattle.sqlite_sql.specs.Term.{Term, eval, eval_all, col}
 use Rattle.sqlite.specs.Effect.{value_rows}
 use Rattle.tables.proofs.Commands.{row_terms}
 

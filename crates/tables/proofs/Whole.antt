@@ -3,15 +3,12 @@ use Rattle.std.proofs.Common.{◌≡◌, ◌≢◌, ◌/◌, map, inl, inr, refl
 use Rattle.std.specs.List.{AllByRecursion}
 use Rattle.sqlite_schema.specs.declared.schema.Table.{Table}
 use Rattle.sqlite_schema.specs.declared.schema.Index.{Index}
-use Rattle.sqlite_schema.specs.Names.{same_name}
 use Rattle.sqlite_schema.specs.declared.command.Command.TheVariants.{Insert}
 use Rattle.sqlite_schema.specs.declared.command.Source.TheVariants.{Values}
-use Rattle.sqlite_schema.specs.declared.schema.Keys.TheVariants.{Enforced}
 use Rattle.sqlite_value.specs.Order.{Row}
 use Rattle.sqlite_value.specs.declared.value.Value.TheVariants.{Null, Int}
 use Rattle.sqlite_sql.specs.Term.{Term, lit}
 use Rattle.sqlite_rules.specs.Cast.{cast_row}
-use Rattle.sqlite_rules.specs.Action.{works}
 use Rattle.sqlite_rules.specs.Lists.{Has}
 use Rattle.sqlite_rules.proofs.ListLemmas.{all_has, all_from, has_left}
 use Rattle.sqlite_tied.specs.Compute.{everything}
@@ -22,41 +19,21 @@ use Rattle.sqlite.specs.Effect.{Database, value_rows}
 use Rattle.sqlite.specs.Listing.{understood, listing_schema}
 use Rattle.sqlite.specs.Held.{Held, state}
 use Rattle.sqlite.specs.State.{State, ExecutesIn}
-use Rattle.sqlite.specs.Batch.{ExecutesAllInside, RunInTurn}
+use Rattle.sqlite.specs.Batch.{ExecutesAllInside}
 use Rattle.sqlite.proofs.Callers.{IsPlain, command_of}
-use Rattle.tables.specs.Steps.Texts.{version_text, rest0, rest15, upgrade0, upgrade1, upgrade2, upgrade3, upgrade8, upgrade9, set_version}
-use Rattle.tables.specs.Schema.{AreAdded, with_indexes, empty_schema, schema_one, schema_two, format, slot, part_profile, more}
+use Rattle.tables.specs.Steps.Texts.{version_text, set_version, batch, added_texts, making, filling, upgrading}
+use Rattle.tables.specs.Schema.{with_indexes, empty_schema, schema_one, schema_two, format, slot, part_profile, more}
 use Rattle.tables.specs.Steps.Kept.{IsKept, no_rows}
 use Rattle.tables.specs.Databases.{IsListed, IsMade, IsFormatOne, IsUpgraded, WasUpgraded, AreNumbered, IsOrdered, chosen, dump_tests, profile_shown, version_row}
 use Rattle.tables.specs.TableTrees.{format_tree, part_profile_tree, slot_tree}
 use Rattle.tables.proofs.Insert.{inserts}
-use Rattle.tables.proofs.Inserts.{cast_null, cast_int, some_rows}
-use Rattle.tables.proofs.Batches.{IsSilent, Script, done, next, also, runs, peel, from_batch}
-use Rattle.tables.proofs.Creations.{stage0, stage10, stage15, makes_one, makes_two, format_makes, slot_makes, keyed_makes, document_makes, range_row_makes, item_makes, hover_makes, mark_makes, bearer_makes, tag_makes, range_by_start_makes, bearer_by_key_makes, tag_by_name_makes, part_profile_makes, more_makes}
-use Rattle.tables.proofs.Cuts.{cut0, cut1, cut2, cut3, cut4, cut5, cut6, cut7, cut8, cut9, cut10, cut11, cut12, cut13, cut14, cut15, upgrade_cut0, upgrade_cut1, upgrade_cut2, upgrade_cut3, upgrade_cut4, upgrade_cut5, upgrade_cut6, upgrade_cut7, upgrade_cut8, upgrade_cut9}
-use Rattle.tables.proofs.Drops.{drops, still_added, none_left, range_by_start_drops, bearer_by_key_drops, tag_by_name_drops}
+use Rattle.tables.proofs.Inserts.{cast_null, cast_int}
+use Rattle.tables.proofs.Batches.{IsSilent, runs, peel, from_batch}
+use Rattle.tables.proofs.Creations.{first_tables, first_make, makes_one, additions, additions_make, makes_two, first_cut, added_cut, version_cut, drops_cut, additions_cut, fill_cut, set_cut}
+use Rattle.tables.proofs.Drops.{all_dropped}
 use Rattle.tables.proofs.Fill.{fill_text, Filled, Risen, fills, profiles, profiles_ordered, rises}
 
 -- ---- from nothing
-
-script : Script no_rows rest0 stage0 rest15 stage15
-script =
-    next _ _ _ _ _ _ _ cut0 format_makes refl (
-    next _ _ _ _ _ _ _ cut1 slot_makes refl (
-    next _ _ _ _ _ _ _ cut2 keyed_makes refl (
-    next _ _ _ _ _ _ _ cut3 document_makes refl (
-    next _ _ _ _ _ _ _ cut4 range_row_makes refl (
-    next _ _ _ _ _ _ _ cut5 item_makes refl (
-    next _ _ _ _ _ _ _ cut6 hover_makes refl (
-    next _ _ _ _ _ _ _ cut7 mark_makes refl (
-    next _ _ _ _ _ _ _ cut8 bearer_makes refl (
-    next _ _ _ _ _ _ _ cut9 tag_makes refl (
-    also _ _ _ _ _ _ _ _ _ cut10 range_by_start_makes (
-    also _ _ _ _ _ _ _ _ _ cut11 bearer_by_key_makes (
-    also _ _ _ _ _ _ _ _ _ cut12 tag_by_name_makes (
-    next _ _ _ _ _ _ _ cut13 part_profile_makes refl (
-    next _ _ _ _ _ _ _ cut14 more_makes refl (
-    done _ _)))))))))))))))
 
 abbrev version_terms : List Term
 version_terms = lit (Int (pos 2)) ∷ lit Null ∷ []
@@ -69,17 +46,13 @@ insert_quiet : IsPlain (understood schema_two version_text) × IsSilent (underst
 unfolding understood everything listing_schema
 insert_quiet = ((refl, refl), (refl, refl))
 
-quiet : (row : Row) (more : List Row) → works schema_two Enforced 0 format_tree [] (row ∷ more) ≡ []
-unfolding same_name
-quiet row more = rw (some_rows row more) refl
-
 taken : map (cast_row format) (value_rows [] 2 (length version_terms / 2) version_terms) ≡ (Int (pos 2) ∷ Null ∷ []) ∷ []
 taken = rw (cast_null, cast_int (pos 2))
 
 filled : (old new : State) (count : ℕ) → IsKept schema_two no_rows old.now → ExecutesIn false version_text [] old new (Ok count) → IsMade new.now
 unfolding IsListed
 filled old new count bare h =
-    let it = inserts schema_two version_text [] 0 format version_terms 2 insert_is insert_quiet.0 refl quiet (Int (pos 2) ∷ Null ∷ []) [] taken old new count bare.schema_is h in
+    let it = inserts schema_two version_text [] 0 format version_terms 2 insert_is insert_quiet.0 refl (Int (pos 2) ∷ Null ∷ []) [] taken old new count bare.schema_is h in
     record {
       schema_is = it.schema_is;
       version = it.applies.rows ∙ rw (bare.rows.0);
@@ -91,15 +64,16 @@ filled old new count bare h =
     still a b [] p q = tt
     still a b (t ∷ ts) p q = (λ other. q.0 other ∙ p.0, still a b ts p.1 q.1)
 
-pub made : {S : Type 0} (g : Ghosts S) (old new : Held S) → (state g old).now.schema ≡ empty_schema → ExecutesAllInside g 0 rest0 old new (Ok tt) → IsMade (state g new).now
+pub made : {S : Type 0} (g : Ghosts S) (old new : Held S) → (state g old).now.schema ≡ empty_schema → ExecutesAllInside g 0 making old new (Ok tt) → IsMade (state g new).now
 unfolding ExecutesAllInside
 made g old new blank h =
-    let tables = runs g (Some 0) no_rows (length rest0) rest0 rest15 stage0 stage15 script old new (record { schema_is = blank; rows = tt }) h in
-    let last = peel g (Some 0) tables.1 rest15 version_text [] cut15 tables.0 new tables.3 in
-    let bare = subst (λ s. IsKept s no_rows (state g tables.0).now) makes_two tables.2 in
-    subst (λ x. IsMade (state g x).now) (sym last.4.1) (filled (state g tables.0) (state g last.0) last.1 bare (from_batch version_text [] (state g tables.0) (state g last.0) schema_two last.1 bare.schema_is insert_quiet.1 last.3.runs))
+    let one = runs g (Some 0) no_rows (length making) first_tables (batch added_texts version_text) empty_schema first_cut first_make (refl, (refl, (refl, (refl, (refl, (refl, (refl, (refl, (refl, (refl, tt)))))))))) old new (record { schema_is = blank; rows = tt }) h in
+    let two = runs g (Some 0) no_rows one.1 additions version_text schema_one added_cut additions_make (tt, (tt, (tt, (refl, (refl, tt))))) one.0 new (subst (λ s. IsKept s no_rows (state g one.0).now) makes_one one.2) one.3 in
+    let last = peel g (Some 0) two.1 version_text version_text [] version_cut two.0 new two.3 in
+    let bare = subst (λ s. IsKept s no_rows (state g two.0).now) makes_two two.2 in
+    subst (λ x. IsMade (state g x).now) (sym last.4.1) (filled (state g two.0) (state g last.0) last.1 bare (from_batch version_text [] (state g two.0) (state g last.0) schema_two last.1 bare.schema_is insert_quiet.1 last.3.runs))
 
-pub made_ok : {S : Type 0} (g : Ghosts S) (old new : Held S) (r : Result (Unit {0}) Error) → (state g old).now.schema ≡ empty_schema → ExecutesAllInside g 0 rest0 old new r → OnOk r (IsMade (state g new).now)
+pub made_ok : {S : Type 0} (g : Ghosts S) (old new : Held S) (r : Result (Unit {0}) Error) → (state g old).now.schema ≡ empty_schema → ExecutesAllInside g 0 making old new r → OnOk r (IsMade (state g new).now)
 made_ok g old new (Err e) blank h = tt
 made_ok g old new (Ok tt) blank h = made g old new blank h
 
@@ -109,15 +83,6 @@ made_ok g old new (Ok tt) blank h = made g old new blank h
 -- nothing
 abbrev older : Trees → Trees
 older db t = if nat_lt t 19 then db t else []
-
-growth : (db : Trees) → Script (older db) upgrade3 stage10 upgrade8 stage15
-growth db =
-    also _ _ _ _ _ _ _ _ _ upgrade_cut3 range_by_start_makes (
-    also _ _ _ _ _ _ _ _ _ upgrade_cut4 bearer_by_key_makes (
-    also _ _ _ _ _ _ _ _ _ upgrade_cut5 tag_by_name_makes (
-    next _ _ _ _ _ _ _ upgrade_cut6 part_profile_makes refl (
-    next _ _ _ _ _ _ _ upgrade_cut7 more_makes refl (
-    done _ _)))))
 
 all_old : AllByRecursion (λ t. nat_lt t.tree 19 ≡ true) schema_one.tables
 all_old = (refl, (refl, (refl, (refl, (refl, (refl, (refl, (refl, (refl, (refl, tt))))))))))
@@ -156,33 +121,16 @@ after_all was mid late end grown put risen =
       listed = subst (λ s. IsListed s end.trees) risen.schema_is risen.sound.lists;
     }
 
--- once the first three statements have dropped the indexes that were there, the tables are as
--- format 1 made them
-pub cleared : {S : Type 0} (g : Ghosts S) (was : Trees) (more : List Index) (old new : Held S) → AreAdded more → IsKept (with_indexes more) (older was) (state g old).now
-    → RunInTurn g (Some 0) (length upgrade0) upgrade0 old new (Ok tt) → (mid : Held S) × (left : ℕ) × IsKept schema_one (older was) (state g mid).now × RunInTurn g (Some 0) left upgrade3 mid new (Ok tt)
-cleared g was more old new added kept h =
-    let a = peel g (Some 0) (length upgrade0) upgrade0 _ upgrade1 upgrade_cut0 old new h in
-    let one = drops _ _ range_by_start_drops (older was) more (state g old) (state g a.0) a.1 added kept a.3.runs in
-    let added_one = still_added _ more one.0 one.2 added in
-    let b = peel g (Some 0) a.2 upgrade1 _ upgrade2 upgrade_cut1 a.0 new a.4 in
-    let two = drops _ _ bearer_by_key_drops (older was) one.0 (state g a.0) (state g b.0) b.1 added_one one.1 b.3.runs in
-    let added_two = still_added _ one.0 two.0 two.2 added_one in
-    let c = peel g (Some 0) b.2 upgrade2 _ upgrade3 upgrade_cut2 b.0 new b.4 in
-    let three = drops _ _ tag_by_name_drops (older was) two.0 (state g b.0) (state g c.0) c.1 added_two two.1 c.3.runs in
-    let none : three.0 ≡ [] = none_left more one.0 two.0 three.0 added one.2 two.2 three.2 in
-    (c.0, c.2, subst (λ l. IsKept (with_indexes l) (older was) (state g c.0).now) none three.1, c.4)
-
-pub upgraded : {S : Type 0} (g : Ghosts S) (old new : Held S) → IsFormatOne (state g old).now → ExecutesAllInside g 0 upgrade0 old new (Ok tt) → IsUpgraded (state g old).now (state g new).now
+pub upgraded : {S : Type 0} (g : Ghosts S) (old new : Held S) → IsFormatOne (state g old).now → ExecutesAllInside g 0 upgrading old new (Ok tt) → IsUpgraded (state g old).now (state g new).now
 unfolding ExecutesAllInside
 upgraded g old new is h =
     let was = (state g old).now in
-    let first = cleared g was.trees is.schema_is.more old new is.schema_is.added (as_before was is.schema_is.more is.schema_is.is) h in
-    let start = subst (λ s. IsKept s (older was.trees) (state g first.0).now) (sym makes_one) first.2 in
-    let tables = runs g (Some 0) (older was.trees) first.1 upgrade3 upgrade8 stage10 stage15 (growth was.trees) first.0 new start first.3 in
+    let first = all_dropped g (Some 0) (older was.trees) (length upgrading) (batch added_texts filling) drops_cut is.schema_is.more old new is.schema_is.added (as_before was is.schema_is.more is.schema_is.is) h in
+    let tables = runs g (Some 0) (older was.trees) first.1 additions filling schema_one additions_cut additions_make (tt, (tt, (tt, (refl, (refl, tt))))) first.0 new first.2 first.3 in
     let grown = subst (λ s. IsKept s (older was.trees) (state g tables.0).now) makes_two tables.2 in
-    let fill = peel g (Some 0) tables.1 upgrade8 fill_text upgrade9 upgrade_cut8 tables.0 new tables.3 in
+    let fill = peel g (Some 0) tables.1 filling fill_text set_version fill_cut.0 tables.0 new tables.3 in
     let put = fills (state g tables.0) (state g fill.0) fill.1 grown.schema_is fill.3.runs in
-    let last = peel g (Some 0) fill.2 upgrade9 set_version [] upgrade_cut9 fill.0 new fill.4 in
+    let last = peel g (Some 0) fill.2 set_version set_version [] set_cut fill.0 new fill.4 in
     let mid = (state g tables.0).now in
     let late = (state g fill.0).now in
     let format_is : late.trees format_tree ≡ version_row 1 = all_has (λ t. t.tree ≢ part_profile_tree → late.trees t.tree ≡ mid.trees t.tree) schema_two.tables format put.applies.tables (inl refl) (is_not 0 22 refl refl) ∙ grown.rows.0 ∙ is.version in
@@ -192,6 +140,6 @@ upgraded g old new is h =
       rows = after_all was mid late (state g last.0).now grown put risen;
     })
 
-pub upgraded_ok : {S : Type 0} (g : Ghosts S) (old new : Held S) (r : Result (Unit {0}) Error) → IsFormatOne (state g old).now → ExecutesAllInside g 0 upgrade0 old new r → OnOk r (IsUpgraded (state g old).now (state g new).now)
+pub upgraded_ok : {S : Type 0} (g : Ghosts S) (old new : Held S) (r : Result (Unit {0}) Error) → IsFormatOne (state g old).now → ExecutesAllInside g 0 upgrading old new r → OnOk r (IsUpgraded (state g old).now (state g new).now)
 upgraded_ok g old new (Err e) is h = tt
 upgraded_ok g old new (Ok tt) is h = upgraded g old new is h

@@ -1,4 +1,4 @@
--- Why the tables refuse: the code of each fault, and which errors of the store are which.
+-- Why the tables refuse: the code and the text of each fault, and which errors of the store are which.
 use Rattle.std.specs.Prelude.{◌≡◌, ◌⊎◌, ℕ, Bool, true, List, codes}
 use Rattle.sqlite.specs.declared.error.Error.{Error}
 use Rattle.sqlite.specs.declared.error.Error.TheVariants.{SqliteFailure}
@@ -11,6 +11,12 @@ name_of Refused = codes "S01"
 name_of Memory = codes "S02"
 name_of Foreign = codes "S03"
 name_of OldFormat = codes "S04"
+
+abbrev pub text_of : TablesFault → List ℕ
+text_of Refused = codes "store refused"
+text_of Memory = codes "out of memory"
+text_of Foreign = codes "not a codenav database"
+text_of OldFormat = codes "database is of format 1"
 
 -- Want of memory, in memory also where the store can't do what was asked, or a refusal for any
 -- other cause. The first argument says whether the database is in memory alone.

@@ -18,14 +18,6 @@ more_kinds = drop 3 kinds
 abbrev pub more_names : List (List ℕ)
 more_names = codes "decl" ∷ codes "imp" ∷ []
 
--- the names as a statement lists them
-abbrev pub more_listed : List ℕ
-more_listed = codes "decl, imp"
-
 -- the columns as the table declares them
 abbrev pub more_declared : List ℕ
 more_declared = codes "decl INTEGER, imp INTEGER"
-
--- the parameters of their values
-abbrev pub more_places : List ℕ
-more_places = codes "?, ?"

@@ -11,7 +11,6 @@ pub mod Puts
 pub mod Queries
 pub mod Refusals
 pub mod Selected
-pub mod SelectionTexts
 pub mod Slots
 pub mod TagRows
 pub mod Texts

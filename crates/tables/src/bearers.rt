@@ -47,6 +47,8 @@ impl Listed for FoundBearer {
     }
 }
 
+const SELECT_PROJECT: &str = "SELECT project FROM slot WHERE id = ?1";
+
 /// The project that a slot is of: as it's named, where the slot is the one that was named last, or
 /// else found. It's the one that is named from then on.
 pub(crate) fn slot_project<S: Alter>(
@@ -69,11 +71,7 @@ pub(crate) fn slot_project<S: Alter>(
         }
     }
     *named = None;
-    let found: Option<String> = select_first(
-        conn,
-        "SELECT project FROM slot WHERE id = ?1",
-        params![slot],
-    )?;
+    let found: Option<String> = select_first(conn, SELECT_PROJECT, params![slot])?;
     let Some(project) = found else {
         return Err(Refusal::Row);
     };
@@ -84,6 +82,11 @@ pub(crate) fn slot_project<S: Alter>(
     });
     Ok(project)
 }
+
+const SELECT_BEARERS_OF_KEY: &str = naming_more!(
+    "SELECT slot.project, bearer.line, bearer.kind, bearer.def, bearer.refs, bearer.hover, ",
+    " FROM bearer LEFT JOIN slot ON slot.id = bearer.slot LEFT JOIN more ON more.slot = bearer.slot AND more.line = bearer.line WHERE bearer.keytext = ?1"
+);
 
 /// The bearers of a key, each with its project and the results that `more` has, as the join finds
 /// them. A row whose slot isn't there has no project, which `read` refuses.
@@ -96,15 +99,7 @@ fn select_bearers<S: Alter>(
         (λ found. (v : BearerFound) → Contains (map bearer_found found.items) v ↔ Bears m key.now v)) }
     ensures reads { OnlyReads S.Store result conn.old conn.new }
 {
-    select_all(
-        alloc,
-        conn,
-        naming_more!(
-            "SELECT slot.project, bearer.line, bearer.kind, bearer.def, bearer.refs, bearer.hover, ",
-            " FROM bearer LEFT JOIN slot ON slot.id = bearer.slot LEFT JOIN more ON more.slot = bearer.slot AND more.line = bearer.line WHERE bearer.keytext = ?1"
-        ),
-        params![key],
-    )
+    select_all(alloc, conn, SELECT_BEARERS_OF_KEY, params![key])
 }
 
 /// By project, then by line, then by kind.

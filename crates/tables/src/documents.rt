@@ -7,6 +7,8 @@ use crate::fault::Refusal;
 use crate::selection::select_first;
 use sqlite::{Alter, Connection, params};
 
+const SELECT_DOCUMENT: &str = "SELECT slot FROM document WHERE slot = ?1 AND uri = ?2";
+
 /// Whether the dump that has this slot has a document of this serialized URL.
 pub(crate) fn has_document<S: Alter>(
     conn: &mut Connection<S>,
@@ -16,10 +18,6 @@ pub(crate) fn has_document<S: Alter>(
     ensures found { OfDump S.Store conn.old conn.new slot (λ dump. IfOk result (λ found. IsTrue found ↔ HasDocument dump.elements uri.now)) }
     ensures reads { OnlyReads S.Store result conn.old conn.new }
 {
-    let found: Option<i64> = select_first(
-        conn,
-        "SELECT slot FROM document WHERE slot = ?1 AND uri = ?2",
-        params![slot, uri],
-    )?;
+    let found: Option<i64> = select_first(conn, SELECT_DOCUMENT, params![slot, uri])?;
     Ok(found.is_some())
 }

@@ -13,10 +13,6 @@ ghost use Rattle.tables.specs.Steps.Clauses.{CommitsNothing, Edits};
 ghost use Rattle.tables.specs.TableTrees.{bearer_tree, document_tree, hover_tree, item_tree, mark_tree, part_profile_tree, range_row_tree};
 ghost use Rattle.tables.specs.declared.slots.Part.TheVariants.{Dump};
 
-use crate::dump_rows::{
-    INSERT_BEARER, INSERT_DOCUMENT, INSERT_EIGHT_BEARERS, INSERT_EIGHT_HOVERS, INSERT_EIGHT_ITEMS,
-    INSERT_EIGHT_MARKS, INSERT_EIGHT_RANGES, INSERT_HOVER, INSERT_ITEM, INSERT_MARK, INSERT_RANGE,
-};
 use crate::more::insert_more;
 use crate::part_rows::insert_all;
 use crate::slots::{Part, insert_slot};
@@ -38,30 +34,9 @@ fn insert_places<S: Alter>(
     ensures uncommitted { CommitsNothing S.Store tx.old.conn tx.new.conn }
 {
     let alloc = *rows.documents.allocator();
-    insert_all(
-        alloc,
-        tx,
-        slot,
-        INSERT_DOCUMENT,
-        None,
-        rows.documents.as_slice(),
-    )?;
-    insert_all(
-        alloc,
-        tx,
-        slot,
-        INSERT_RANGE,
-        Some(INSERT_EIGHT_RANGES),
-        rows.ranges.as_slice(),
-    )?;
-    insert_all(
-        alloc,
-        tx,
-        slot,
-        INSERT_ITEM,
-        Some(INSERT_EIGHT_ITEMS),
-        rows.items.as_slice(),
-    )
+    insert_all(alloc, tx, slot, rows.documents.as_slice())?;
+    insert_all(alloc, tx, slot, rows.ranges.as_slice())?;
+    insert_all(alloc, tx, slot, rows.items.as_slice())
 }
 
 /// Puts the hovers, the marks and the bearers of a dump.
@@ -77,31 +52,12 @@ fn insert_contents<S: Alter>(
     ensures uncommitted { CommitsNothing S.Store tx.old.conn tx.new.conn }
 {
     let alloc = *rows.hovers.allocator();
-    insert_all(
-        alloc,
-        tx,
-        slot,
-        INSERT_HOVER,
-        Some(INSERT_EIGHT_HOVERS),
-        rows.hovers.as_slice(),
-    )?;
-    insert_all(
-        alloc,
-        tx,
-        slot,
-        INSERT_MARK,
-        Some(INSERT_EIGHT_MARKS),
-        rows.marks.as_slice(),
-    )?;
-    insert_all(
-        alloc,
-        tx,
-        slot,
-        INSERT_BEARER,
-        Some(INSERT_EIGHT_BEARERS),
-        rows.bearers.as_slice(),
-    )
+    insert_all(alloc, tx, slot, rows.hovers.as_slice())?;
+    insert_all(alloc, tx, slot, rows.marks.as_slice())?;
+    insert_all(alloc, tx, slot, rows.bearers.as_slice())
 }
+
+const INSERT_INTO_PROFILES: &str = "INSERT INTO part_profile (slot, profile) VALUES (?1, ?2)";
 
 /// Puts the profile of a dump.
 fn insert_profile<S: Alter>(
@@ -113,11 +69,7 @@ fn insert_profile<S: Alter>(
     ensures uncommitted { CommitsNothing S.Store tx.old.conn tx.new.conn }
 {
     let number = profile.number();
-    run(
-        tx,
-        "INSERT INTO part_profile (slot, profile) VALUES (?1, ?2)",
-        params![slot, number],
-    )
+    run(tx, INSERT_INTO_PROFILES, params![slot, number])
 }
 
 /// Puts the rows of a dump under a slot of its own, where the project has none.

@@ -1,10 +1,11 @@
 //! The rows of a dump's tables, one type each, with the statements that insert them and the values
 //! of these. What they hold is in `specs/Columns`.
-ghost use Rattle.std.specs.Prelude.{◌≡◌};
+ghost use Rattle.std.specs.Prelude.{IfSome, ◌≡◌};
 ghost use Rattle.flatten.specs.Flat.{role_index, kind_index};
 ghost use Rattle.lsif.specs.declared.request_kind.RequestKind.TheVariants.{Definition, References, Hover};
 ghost use Rattle.flatten.specs.Rows.{document_value, range_value, results_value, item_value, hover_value, mark_value, bearer_value};
 ghost use Rattle.tables.specs.Columns.{document_columns, range_columns, item_columns, hover_columns, mark_columns, bearer_columns};
+ghost use Rattle.tables.specs.Steps.Inserts.{InsertsOne, InsertsEight};
 ghost use Rattle.tables.specs.TableTrees.{document_tree, range_row_tree, item_tree, hover_tree, mark_tree, bearer_tree};
 
 use crate::part_rows::PartRow;
@@ -36,38 +37,34 @@ pub(crate) fn kind_number(kind: MonikerKind) -> u32
     }
 }
 
-// ---- the statements that insert one row, and eight
+const INSERT_DOCUMENT: &str = "INSERT INTO document (slot, uri) VALUES (?1, ?2)";
 
-pub(crate) const INSERT_DOCUMENT: &str = "INSERT INTO document (slot, uri) VALUES (?1, ?2)";
-
-pub(crate) const INSERT_RANGE: &str =
+const INSERT_RANGE: &str =
     "INSERT INTO range_row (slot, line, uri, first, last, parent, def, refs, hover) VALUES (?1, ?2, ?3, ?4, ?5, ?6, ?7, ?8, ?9)";
 
-pub(crate) const INSERT_EIGHT_RANGES: &str =
+const INSERT_EIGHT_RANGES: &str =
     "INSERT INTO range_row (slot, line, uri, first, last, parent, def, refs, hover) VALUES (?,?,?,?,?,?,?,?,?),(?,?,?,?,?,?,?,?,?),(?,?,?,?,?,?,?,?,?),(?,?,?,?,?,?,?,?,?),(?,?,?,?,?,?,?,?,?),(?,?,?,?,?,?,?,?,?),(?,?,?,?,?,?,?,?,?),(?,?,?,?,?,?,?,?,?)";
 
-pub(crate) const INSERT_ITEM: &str =
+const INSERT_ITEM: &str =
     "INSERT INTO item (slot, result, role, uri, first, last) VALUES (?1, ?2, ?3, ?4, ?5, ?6)";
 
-pub(crate) const INSERT_EIGHT_ITEMS: &str =
+const INSERT_EIGHT_ITEMS: &str =
     "INSERT INTO item (slot, result, role, uri, first, last) VALUES (?,?,?,?,?,?),(?,?,?,?,?,?),(?,?,?,?,?,?),(?,?,?,?,?,?),(?,?,?,?,?,?),(?,?,?,?,?,?),(?,?,?,?,?,?),(?,?,?,?,?,?)";
 
-pub(crate) const INSERT_HOVER: &str =
-    "INSERT INTO hover (slot, result, contents) VALUES (?1, ?2, ?3)";
+const INSERT_HOVER: &str = "INSERT INTO hover (slot, result, contents) VALUES (?1, ?2, ?3)";
 
-pub(crate) const INSERT_EIGHT_HOVERS: &str =
+const INSERT_EIGHT_HOVERS: &str =
     "INSERT INTO hover (slot, result, contents) VALUES (?,?,?),(?,?,?),(?,?,?),(?,?,?),(?,?,?),(?,?,?),(?,?,?),(?,?,?)";
 
-pub(crate) const INSERT_MARK: &str =
-    "INSERT INTO mark (slot, line, kind, keytext) VALUES (?1, ?2, ?3, ?4)";
+const INSERT_MARK: &str = "INSERT INTO mark (slot, line, kind, keytext) VALUES (?1, ?2, ?3, ?4)";
 
-pub(crate) const INSERT_EIGHT_MARKS: &str =
+const INSERT_EIGHT_MARKS: &str =
     "INSERT INTO mark (slot, line, kind, keytext) VALUES (?,?,?,?),(?,?,?,?),(?,?,?,?),(?,?,?,?),(?,?,?,?),(?,?,?,?),(?,?,?,?),(?,?,?,?)";
 
-pub(crate) const INSERT_BEARER: &str =
+const INSERT_BEARER: &str =
     "INSERT INTO bearer (slot, line, keytext, kind, def, refs, hover) VALUES (?1, ?2, ?3, ?4, ?5, ?6, ?7)";
 
-pub(crate) const INSERT_EIGHT_BEARERS: &str =
+const INSERT_EIGHT_BEARERS: &str =
     "INSERT INTO bearer (slot, line, keytext, kind, def, refs, hover) VALUES (?,?,?,?,?,?,?),(?,?,?,?,?,?,?),(?,?,?,?,?,?,?),(?,?,?,?,?,?,?),(?,?,?,?,?,?,?),(?,?,?,?,?,?,?),(?,?,?,?,?,?,?),(?,?,?,?,?,?,?)";
 
 /// The results that the rows of ranges and of bearers have themselves. The others are in rows of
@@ -91,6 +88,19 @@ impl PartRow for DocRow<'_> {
 
     ghost columns = { λ row. document_columns (document_value row) };
 
+    #[tactic(auto, using(crate::proofs::Inserts::document_put))]
+    fn insert_one() -> &'static str
+        ensures { InsertsOne result.now document_tree (λ row. document_columns (document_value row)) }
+    {
+        INSERT_DOCUMENT
+    }
+
+    fn insert_eight() -> Option<&'static str>
+        ensures { IfSome result (λ text. InsertsEight text.now document_tree (λ row. document_columns (document_value row))) }
+    {
+        None
+    }
+
     fn bind<'a>(&'a self, slot: i64, values: &mut Vec<ValueRef<'a>>) -> Result<(), AllocError> {
         values.extend_from_slice(params![slot, self.uri])
     }
@@ -100,6 +110,20 @@ impl PartRow for RangeRow<'_> {
     ghost tree = { range_row_tree };
 
     ghost columns = { λ row. range_columns (range_value row) };
+
+    #[tactic(auto, using(crate::proofs::Inserts::range_row_put))]
+    fn insert_one() -> &'static str
+        ensures { InsertsOne result.now range_row_tree (λ row. range_columns (range_value row)) }
+    {
+        INSERT_RANGE
+    }
+
+    #[tactic(auto, using(crate::proofs::Inserts::range_rows_put))]
+    fn insert_eight() -> Option<&'static str>
+        ensures { IfSome result (λ text. InsertsEight text.now range_row_tree (λ row. range_columns (range_value row))) }
+    {
+        Some(INSERT_EIGHT_RANGES)
+    }
 
     fn bind<'a>(&'a self, slot: i64, values: &mut Vec<ValueRef<'a>>) -> Result<(), AllocError> {
         let (first, last) = (self.span.start().pack(), self.span.end().pack());
@@ -123,6 +147,20 @@ impl PartRow for ItemRow<'_> {
 
     ghost columns = { λ row. item_columns (item_value row) };
 
+    #[tactic(auto, using(crate::proofs::Inserts::item_put))]
+    fn insert_one() -> &'static str
+        ensures { InsertsOne result.now item_tree (λ row. item_columns (item_value row)) }
+    {
+        INSERT_ITEM
+    }
+
+    #[tactic(auto, using(crate::proofs::Inserts::items_put))]
+    fn insert_eight() -> Option<&'static str>
+        ensures { IfSome result (λ text. InsertsEight text.now item_tree (λ row. item_columns (item_value row))) }
+    {
+        Some(INSERT_EIGHT_ITEMS)
+    }
+
     fn bind<'a>(&'a self, slot: i64, values: &mut Vec<ValueRef<'a>>) -> Result<(), AllocError> {
         let (first, last) = (self.span.start().pack(), self.span.end().pack());
         let role = role_number(self.role);
@@ -135,6 +173,20 @@ impl PartRow for HoverRow<'_> {
 
     ghost columns = { λ row. hover_columns (hover_value row) };
 
+    #[tactic(auto, using(crate::proofs::Inserts::hover_put))]
+    fn insert_one() -> &'static str
+        ensures { InsertsOne result.now hover_tree (λ row. hover_columns (hover_value row)) }
+    {
+        INSERT_HOVER
+    }
+
+    #[tactic(auto, using(crate::proofs::Inserts::hovers_put))]
+    fn insert_eight() -> Option<&'static str>
+        ensures { IfSome result (λ text. InsertsEight text.now hover_tree (λ row. hover_columns (hover_value row))) }
+    {
+        Some(INSERT_EIGHT_HOVERS)
+    }
+
     fn bind<'a>(&'a self, slot: i64, values: &mut Vec<ValueRef<'a>>) -> Result<(), AllocError> {
         values.extend_from_slice(params![slot, self.result, self.contents])
     }
@@ -144,6 +196,16 @@ impl PartRow for MarkRow {
     ghost tree = { mark_tree };
 
     ghost columns = { λ row. mark_columns (mark_value row) };
+
+    #[tactic(auto, using(crate::proofs::Inserts::mark_put))]
+    fn insert_one() -> &'static str {
+        INSERT_MARK
+    }
+
+    #[tactic(auto, using(crate::proofs::Inserts::marks_put))]
+    fn insert_eight() -> Option<&'static str> {
+        Some(INSERT_EIGHT_MARKS)
+    }
 
     fn bind<'a>(&'a self, slot: i64, values: &mut Vec<ValueRef<'a>>) -> Result<(), AllocError> {
         let kind = kind_number(self.kind);
@@ -155,6 +217,16 @@ impl PartRow for BearerRow {
     ghost tree = { bearer_tree };
 
     ghost columns = { λ row. bearer_columns (bearer_value row) };
+
+    #[tactic(auto, using(crate::proofs::Inserts::bearer_put))]
+    fn insert_one() -> &'static str {
+        INSERT_BEARER
+    }
+
+    #[tactic(auto, using(crate::proofs::Inserts::bearers_put))]
+    fn insert_eight() -> Option<&'static str> {
+        Some(INSERT_EIGHT_BEARERS)
+    }
 
     fn bind<'a>(&'a self, slot: i64, values: &mut Vec<ValueRef<'a>>) -> Result<(), AllocError> {
         let (kind, key) = (kind_number(self.kind), self.key.as_str());

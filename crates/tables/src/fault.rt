@@ -1,31 +1,28 @@
 //! Why the tables refuse, with the code of each reason and its message, and the private reason that
 //! a row isn't one of the tables'. `specs/Fault`.
 ghost use Rattle.std.specs.Prelude.{◌≡◌};
-ghost use Rattle.tables.specs.Fault.{IsStoreFault, name_of, fault_of};
+ghost use Rattle.tables.specs.Fault.{IsStoreFault, name_of, text_of, fault_of};
 ghost use Rattle.tables.specs.Steps.Refusals.{told_fault};
 ghost use Rattle.tables.specs.declared.fault.Refusal.TheVariants.{Memory, Store};
 
 use machine::STORE_REFUSED;
 use sqlite::{Error, ErrorCode};
 use std::alloc::{AllocError, AllocFailed};
+use std::fmt;
 use streams::OUT_OF_MEMORY;
 
 /// Why a call of the tables is refused. Its message is what the program prints.
-#[derive(Clone, Copy, Debug, PartialEq, Eq, thiserror::Error)]
+#[derive(Clone, Copy, Debug, PartialEq, Eq)]
 pub enum TablesFault {
     /// The store or a statement refused for another cause than memory, or a row isn't one that this
     /// product writes.
-    #[error("{}", STORE_REFUSED)]
     Refused,
     /// Memory was refused, also to the store of a database in memory (`Tables::in_memory`).
-    #[error("{}", OUT_OF_MEMORY)]
     Memory,
     /// The database isn't the product's: something has the name of one of its tables, and no
     /// version can be read.
-    #[error("not a codenav database")]
     Foreign,
     /// The tables are of format 1, which `migrate` upgrades.
-    #[error("database is of format 1")]
     OldFormat,
 }
 
@@ -41,7 +38,27 @@ impl TablesFault {
             TablesFault::OldFormat => "S04",
         }
     }
+
+    /// The message of the fault, as it is printed.
+    pub fn text(self) -> &'static str
+        ensures { result.now ≡ text_of self }
+    {
+        match self {
+            TablesFault::Refused => STORE_REFUSED,
+            TablesFault::Memory => OUT_OF_MEMORY,
+            TablesFault::Foreign => "not a codenav database",
+            TablesFault::OldFormat => "database is of format 1",
+        }
+    }
 }
+
+impl fmt::Display for TablesFault {
+    fn fmt<W: fmt::Write>(&self, f: &mut fmt::Formatter<W>) -> fmt::Result {
+        f.write_str(self.text())
+    }
+}
+
+impl std::error::Error for TablesFault {}
 
 /// The fault that an error of the store is, of a database in memory or of another. What a store in
 /// memory can't do is for lack of memory.

@@ -61,6 +61,9 @@ fn list_items(found: &mut Vec<FoundItem>)
     found.dedup();
 }
 
+const SELECT_ITEMS: &str =
+    "SELECT uri, first, last FROM item WHERE slot = ?1 AND result = ?2 AND role = ?3";
+
 /// The items that a result has in a role, in the dump that has this slot.
 fn items_in<S: Alter>(
     alloc: Global,
@@ -77,7 +80,7 @@ fn items_in<S: Alter>(
     let mut found = select_all(
         alloc,
         conn,
-        "SELECT uri, first, last FROM item WHERE slot = ?1 AND result = ?2 AND role = ?3",
+        SELECT_ITEMS,
         params![slot, result_number, role],
     )?;
     list_items(&mut found);

@@ -55,6 +55,8 @@ fn list_marks(found: &mut Vec<FoundMark>)
     found.dedup();
 }
 
+const SELECT_MARKS: &str = "SELECT kind, keytext FROM mark WHERE slot = ?1 AND line = ?2";
+
 /// The marks of a range of the dump that has this slot.
 fn marks_in<S: Alter>(
     alloc: Global,
@@ -66,12 +68,7 @@ fn marks_in<S: Alter>(
         → HasSlot (state S.Store conn.old).now.trees slot project Dump → IfOk result (λ found. FindsMarks m project line (map mark_found found.items))) }
     ensures reads { OnlyReads S.Store result conn.old conn.new }
 {
-    let mut found = select_all(
-        alloc,
-        conn,
-        "SELECT kind, keytext FROM mark WHERE slot = ?1 AND line = ?2",
-        params![slot, line],
-    )?;
+    let mut found = select_all(alloc, conn, SELECT_MARKS, params![slot, line])?;
     list_marks(&mut found);
     Ok(found)
 }

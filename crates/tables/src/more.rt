@@ -24,7 +24,7 @@ ghost use Rattle.tables.specs.TableTrees.{more_tree};
 use crate::columns::column;
 use crate::fault::Refusal;
 use crate::kinds::{INSERT_MORE, bind_more, has_more, has_same_more, naming_more, read_more};
-use crate::part_rows::{PartRow, insert_by};
+use crate::part_rows::{PartRow, insert_all};
 use crate::selection::{Listed, select_first};
 use flatten::{BearerRow, RangeRow, Results, Rows};
 use sqlite::types::ValueRef;
@@ -44,6 +44,15 @@ impl PartRow for MoreRow {
 
     ghost columns = { λ row. more_values (more_value row) };
 
+    #[tactic(auto, using(crate::proofs::Inserts::more_put))]
+    fn insert_one() -> &'static str {
+        INSERT_MORE
+    }
+
+    fn insert_eight() -> Option<&'static str> {
+        None
+    }
+
     fn bind<'a>(&'a self, slot: i64, values: &mut Vec<ValueRef<'a>>) -> Result<(), AllocError> {
         values.extend_from_slice(params![slot, self.line])?;
         bind_more(self.results, values)
@@ -61,6 +70,8 @@ impl Listed for MoreRow {
     }
 }
 
+const SELECT_MORE: &str = naming_more!("SELECT line, ", " FROM more WHERE slot = ?1 AND line = ?2");
+
 /// The results that a line of the dump that has this slot has in `more`.
 pub(crate) fn more_of<S: Alter>(
     conn: &mut Connection<S>,
@@ -71,11 +82,7 @@ pub(crate) fn more_of<S: Alter>(
         → IfOk result (λ more. map (results_value more) more_kinds ≡ map results more_kinds)) }
     ensures reads { OnlyReads S.Store result conn.old conn.new }
 {
-    let found: Option<MoreRow> = select_first(
-        conn,
-        naming_more!("SELECT line, ", " FROM more WHERE slot = ?1 AND line = ?2"),
-        params![slot, line],
-    )?;
+    let found: Option<MoreRow> = select_first(conn, SELECT_MORE, params![slot, line])?;
     match found {
         Some(more) => Ok(more.results),
         None => Ok(Results::none()),
@@ -98,8 +105,7 @@ fn insert_line<S: Alter>(
         return Ok(());
     }
     let row = MoreRow { line, results };
-    let mut values = Vec::new(alloc);
-    insert_by(tx, slot, INSERT_MORE, from_ref(&row), &mut values)
+    insert_all(alloc, tx, slot, from_ref(&row))
 }
 
 /// Puts the rows of the lines of ranges.

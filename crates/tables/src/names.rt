@@ -65,6 +65,9 @@ fn list_by_name(found: &mut Vec<FoundTag>) -> Result<(), Refusal>
     }
 }
 
+const SELECT_TAGS_OF_NAME: &str =
+    "SELECT slot, line, name, file, address, kind, fields FROM tag WHERE name = ?1";
+
 /// The rows of the tags of this name.
 fn select_named<S: Alter>(
     alloc: Global,
@@ -75,12 +78,7 @@ fn select_named<S: Alter>(
         (λ text. text ≡ name.now) rows.items)) }
     ensures reads { OnlyReads S.Store result conn.old conn.new }
 {
-    select_all(
-        alloc,
-        conn,
-        "SELECT slot, line, name, file, address, kind, fields FROM tag WHERE name = ?1",
-        params![name],
-    )
+    select_all(alloc, conn, SELECT_TAGS_OF_NAME, params![name])
 }
 
 /// The tags of this name.
@@ -114,6 +112,9 @@ fn value_behind(alloc: Global, prefix: &str) -> Result<Value, AllocError>
     Ok(Value::Text(Bytes::from_slice(alloc, &end)?))
 }
 
+const SELECT_TAGS_OF_PREFIX: &str =
+    "SELECT slot, line, name, file, address, kind, fields FROM tag WHERE name >= ?1 AND name < ?2";
+
 /// The rows of the tags whose names begin with the text.
 fn select_prefixed<S: Alter>(
     alloc: Global,
@@ -125,12 +126,7 @@ fn select_prefixed<S: Alter>(
     ensures reads { OnlyReads S.Store result conn.old conn.new }
 {
     let behind = value_behind(alloc, prefix)?;
-    select_all(
-        alloc,
-        conn,
-        "SELECT slot, line, name, file, address, kind, fields FROM tag WHERE name >= ?1 AND name < ?2",
-        params![prefix, &behind],
-    )
+    select_all(alloc, conn, SELECT_TAGS_OF_PREFIX, params![prefix, &behind])
 }
 
 /// The tags whose names begin with the text.

@@ -27,6 +27,14 @@ pub(crate) trait PartRow {
     /// The row's columns after that of the slot.
     ghost columns: { Self → Columns };
 
+    /// The statement that inserts one row.
+    fn insert_one() -> &'static str
+        ensures { InsertsOne result.now tree columns };
+
+    /// The statement that inserts eight rows, where the table has one.
+    fn insert_eight() -> Option<&'static str>
+        ensures { IfSome result (λ text. InsertsEight text.now tree columns) };
+
     /// Adds the row's values, the slot first, to those of a statement.
     fn bind<'a>(&'a self, slot: i64, values: &mut Vec<ValueRef<'a>>) -> Result<(), AllocError>
         ensures { OnOk result (bound values.new.items ≡ bound values.old.items ++ (Int slot ∷ columns self.now)) };
@@ -34,7 +42,7 @@ pub(crate) trait PartRow {
 
 /// Puts the rows into their table, under this slot, by a statement for so many. The values that are
 /// there are those of rows before.
-pub(crate) fn insert_by<'a, S: Alter, R: PartRow>(
+fn insert_by<'a, S: Alter, R: PartRow>(
     tx: &mut Transaction<'_, S>,
     slot: i64,
     text: &str,
@@ -53,45 +61,53 @@ pub(crate) fn insert_by<'a, S: Alter, R: PartRow>(
     Ok(())
 }
 
-/// Puts the rows into their table, under this slot, one by one by a statement for one row.
+/// Puts the rows into their table, under this slot, one by one.
 fn insert_each<'a, S: Alter, R: PartRow>(
     tx: &mut Transaction<'_, S>,
     slot: i64,
-    text: &str,
     rows: &'a [R],
     values: &mut Vec<ValueRef<'a>>,
 ) -> Result<(), Error>
-    requires inserts { InsertsOne text.now R.tree R.columns }
     ensures put { Edits S.Store result tx.old.conn tx.new.conn (PutsAll R.tree (map (λ row. Int slot ∷ R.columns row) rows.now)) }
     ensures uncommitted { CommitsNothing S.Store tx.old.conn tx.new.conn }
 {
+    let text = R::insert_one();
     for row in rows {
         insert_by(tx, slot, text, from_ref(row), values)?;
     }
     Ok(())
 }
 
-/// Puts the rows into their table, under this slot, by a statement for one row and, where there is
-/// one, a statement for eight.
+/// Puts at most eight rows into their table, under this slot: eight at once where there is a
+/// statement for eight.
+fn insert_few<'a, S: Alter, R: PartRow>(
+    tx: &mut Transaction<'_, S>,
+    slot: i64,
+    rows: &'a [R],
+    values: &mut Vec<ValueRef<'a>>,
+) -> Result<(), Error>
+    ensures put { Edits S.Store result tx.old.conn tx.new.conn (PutsAll R.tree (map (λ row. Int slot ∷ R.columns row) rows.now)) }
+    ensures uncommitted { CommitsNothing S.Store tx.old.conn tx.new.conn }
+{
+    match R::insert_eight() {
+        Some(text) if rows.len() == EIGHT => insert_by(tx, slot, text, rows, values),
+        _ => insert_each(tx, slot, rows, values),
+    }
+}
+
+/// Puts the rows into their table, under this slot.
 pub(crate) fn insert_all<S: Alter, R: PartRow>(
     alloc: Global,
     tx: &mut Transaction<'_, S>,
     slot: i64,
-    one: &str,
-    eight: Option<&str>,
     rows: &[R],
 ) -> Result<(), Error>
-    requires one { InsertsOne one.now R.tree R.columns }
-    requires eight { IfSome eight (λ text. InsertsEight text.now R.tree R.columns) }
     ensures put { Edits S.Store result tx.old.conn tx.new.conn (PutsAll R.tree (map (λ row. Int slot ∷ R.columns row) rows.now)) }
     ensures uncommitted { CommitsNothing S.Store tx.old.conn tx.new.conn }
 {
     let mut values = Vec::new(alloc);
     for group in rows.chunks(EIGHT) {
-        match eight {
-            Some(text) if group.len() == EIGHT => insert_by(tx, slot, text, group, &mut values)?,
-            _ => insert_each(tx, slot, one, group, &mut values)?,
-        }
+        insert_few(tx, slot, group, &mut values)?;
     }
     Ok(())
 }

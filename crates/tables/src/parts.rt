@@ -20,6 +20,8 @@ use lsif::Profile;
 use sqlite::{Alter, Connection, Row, params};
 use std::alloc::Global;
 
+const SELECT_SLOT: &str = "SELECT id FROM slot WHERE project = ?1 AND part = ?2";
+
 /// The id of the slot of a part, where the project has it.
 pub(crate) fn find_slot<S: Alter>(
     conn: &mut Connection<S>,
@@ -32,11 +34,7 @@ pub(crate) fn find_slot<S: Alter>(
     ensures reads { OnlyReads S.Store result conn.old conn.new }
 {
     let number = part_number(part);
-    select_first(
-        conn,
-        "SELECT id FROM slot WHERE project = ?1 AND part = ?2",
-        params![project, number],
-    )
+    select_first(conn, SELECT_SLOT, params![project, number])
 }
 
 /// A slot, and the project that it is of.
@@ -81,16 +79,14 @@ impl Listed for Profile {
     }
 }
 
+const SELECT_PROFILE: &str = "SELECT profile FROM part_profile WHERE slot = ?1";
+
 /// The profile of the dump that has this slot.
 fn profile_in<S: Alter>(conn: &mut Connection<S>, slot: i64) -> Result<Profile, Refusal>
     ensures profile { OfDump S.Store conn.old conn.new slot (λ dump. IfOk result (λ profile. profile ≡ dump.profile)) }
     ensures reads { OnlyReads S.Store result conn.old conn.new }
 {
-    let found = select_first(
-        conn,
-        "SELECT profile FROM part_profile WHERE slot = ?1",
-        params![slot],
-    )?;
+    let found = select_first(conn, SELECT_PROFILE, params![slot])?;
     found.ok_or(Refusal::Row)
 }
 

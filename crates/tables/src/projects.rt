@@ -57,6 +57,8 @@ fn list_names(names: &mut Vec<String>)
     names.dedup();
 }
 
+const SELECT_PROJECTS: &str = "SELECT project FROM slot";
+
 /// The names of the projects with a part.
 fn select_names<S: Alter>(alloc: Global, conn: &mut Connection<S>) -> Result<Vec<String>, Refusal>
     ensures names { HasCleanDisk (state S.Store conn.new) → (state S.Store conn.old).now.schema ≡ schema_two → (parts : Contents) (replies : Replies)
@@ -64,7 +66,7 @@ fn select_names<S: Alter>(alloc: Global, conn: &mut Connection<S>) -> Result<Vec
         → IfOk result (λ names. IsListing text_cmp (HasPart parts) (map string_bytes names.items)) }
     ensures reads { OnlyReads S.Store result conn.old conn.new }
 {
-    let mut names = select_all(alloc, conn, "SELECT project FROM slot", &[])?;
+    let mut names = select_all(alloc, conn, SELECT_PROJECTS, &[])?;
     list_names(&mut names);
     Ok(names)
 }

@@ -45,6 +45,9 @@ impl Listed for SlotRange {
     }
 }
 
+const SELECT_START: &str =
+    "SELECT line, first, last, parent, def, refs, hover FROM range_row WHERE slot = ?1 AND uri = ?2 AND first <= ?3 AND last > first ORDER BY first DESC, last LIMIT 1";
+
 /// The range of a document, in the dump that has this slot, that isn't empty, starts at the
 /// position or before, and comes last by start, then by falling end.
 pub(crate) fn start_of<S: Alter>(
@@ -57,11 +60,7 @@ pub(crate) fn start_of<S: Alter>(
     ensures reads { OnlyReads S.Store result conn.old conn.new }
 {
     let packed = at.pack();
-    select_first(
-        conn,
-        "SELECT line, first, last, parent, def, refs, hover FROM range_row WHERE slot = ?1 AND uri = ?2 AND first <= ?3 AND last > first ORDER BY first DESC, last LIMIT 1",
-        params![slot, uri, packed],
-    )
+    select_first(conn, SELECT_START, params![slot, uri, packed])
 }
 
 /// Whether the first range comes before the second, by start, then by falling end.
@@ -72,6 +71,9 @@ fn comes_before(first: &SlotRange, second: &SlotRange) -> bool
     let (other_start, other_end) = (second.span.start(), second.span.end());
     start < other_start || (start == other_start && end > other_end)
 }
+
+const SELECT_RANGE: &str =
+    "SELECT line, first, last, parent, def, refs, hover FROM range_row WHERE slot = ?1 AND line = ?2 AND uri = ?3";
 
 /// The parent of a range of a document, in the dump that has this slot. It's `Row` where the
 /// document has no such range, or one that doesn't come before this one (by start, then by falling
@@ -89,11 +91,7 @@ pub(crate) fn parent_of<S: Alter>(
     let Some(line) = child.parent else {
         return Ok(None);
     };
-    let found: Option<SlotRange> = select_first(
-        conn,
-        "SELECT line, first, last, parent, def, refs, hover FROM range_row WHERE slot = ?1 AND line = ?2 AND uri = ?3",
-        params![slot, line, uri],
-    )?;
+    let found: Option<SlotRange> = select_first(conn, SELECT_RANGE, params![slot, line, uri])?;
     match found {
         Some(parent) if comes_before(&parent, child) => Ok(Some(parent)),
         _ => Err(Refusal::Row),

@@ -11,6 +11,8 @@ use crate::selection::select_first;
 use crate::tables::Tables;
 use sqlite::{Alter, Connection, params};
 
+const SELECT_REPLY: &str = "SELECT reply FROM keyed WHERE project = ?1 AND cmdkey = ?2";
+
 /// The text of a kept reply.
 fn find_reply<S: Alter>(
     conn: &mut Connection<S>,
@@ -21,11 +23,7 @@ fn find_reply<S: Alter>(
         (λ reply. option_map string_bytes reply ≡ option_map accepted_text (m.kept project.now key.now))) }
     ensures reads { OnlyReads S.Store result conn.old conn.new }
 {
-    select_first(
-        conn,
-        "SELECT reply FROM keyed WHERE project = ?1 AND cmdkey = ?2",
-        params![project, key],
-    )
+    select_first(conn, SELECT_REPLY, params![project, key])
 }
 
 impl<S: Alter> Tables<S> {

@@ -18,6 +18,8 @@ use crate::slots::Part;
 use crate::tables::Tables;
 use sqlite::{Alter, Connection, params};
 
+const SELECT_HOVER: &str = "SELECT contents FROM hover WHERE slot = ?1 AND result = ?2";
+
 /// The contents of a hover result of the dump that has this slot.
 fn hover_in<S: Alter>(
     conn: &mut Connection<S>,
@@ -28,11 +30,7 @@ fn hover_in<S: Alter>(
         → IfOk result (λ found. FindsHover m project result_number (option_map string_bytes found))) }
     ensures reads { OnlyReads S.Store result conn.old conn.new }
 {
-    select_first(
-        conn,
-        "SELECT contents FROM hover WHERE slot = ?1 AND result = ?2",
-        params![slot, result_number],
-    )
+    select_first(conn, SELECT_HOVER, params![slot, result_number])
 }
 
 /// The contents of a hover result of a project's dump.

@@ -32,6 +32,8 @@ pub(crate) fn part_number(part: Part) -> i64
     }
 }
 
+const DELETE_FROM_SLOT: &str = "DELETE FROM slot WHERE project = ?1 AND part = ?2";
+
 /// Removes the slot of a part, and with it the part's rows, and returns how many slots there were.
 pub(crate) fn remove_slot<S: Alter>(
     tx: &mut Transaction<'_, S>,
@@ -47,12 +49,10 @@ pub(crate) fn remove_slot<S: Alter>(
     ensures uncommitted { CommitsNothing S.Store tx.old.conn tx.new.conn }
 {
     let number = part_number(part);
-    run(
-        tx,
-        "DELETE FROM slot WHERE project = ?1 AND part = ?2",
-        params![project, number],
-    )
+    run(tx, DELETE_FROM_SLOT, params![project, number])
 }
+
+const INSERT_INTO_SLOT: &str = "INSERT INTO slot (project, part) VALUES (?1, ?2)";
 
 /// Makes a slot for a part: its id.
 pub(crate) fn insert_slot<S: Alter>(
@@ -67,13 +67,11 @@ pub(crate) fn insert_slot<S: Alter>(
     ensures uncommitted { CommitsNothing S.Store tx.old.conn tx.new.conn }
 {
     let number = part_number(part);
-    run(
-        tx,
-        "INSERT INTO slot (project, part) VALUES (?1, ?2)",
-        params![project, number],
-    )?;
+    run(tx, INSERT_INTO_SLOT, params![project, number])?;
     Ok(tx.last_insert_rowid())
 }
+
+const INSERT_INTO_KEYED: &str = "INSERT INTO keyed (project, cmdkey, reply) VALUES (?1, ?2, ?3)";
 
 /// Keeps the text of a reply under a key.
 pub(crate) fn insert_reply<S: Alter>(
@@ -88,9 +86,5 @@ pub(crate) fn insert_reply<S: Alter>(
         → OnOk result (IsListed schema_two (state S.Store tx.new.conn.now).now.trees) }
     ensures uncommitted { CommitsNothing S.Store tx.old.conn tx.new.conn }
 {
-    run(
-        tx,
-        "INSERT INTO keyed (project, cmdkey, reply) VALUES (?1, ?2, ?3)",
-        params![project, key, reply],
-    )
+    run(tx, INSERT_INTO_KEYED, params![project, key, reply])
 }

@@ -1,6 +1,6 @@
 //! The rows of tags, put under a slot of their own; the fields are written as JSON. A dump's rows
 //! are in `dump_part.rt`.
-ghost use Rattle.std.specs.Prelude.{◌≡◌, ◌∷◌, map, string_bytes, Some, None, IsTrue, IfOk, OnOk};
+ghost use Rattle.std.specs.Prelude.{IfSome, ◌≡◌, ◌∷◌, map, string_bytes, Some, None, IsTrue, IfOk, OnOk};
 ghost use Rattle.sqlite_value.specs.declared.value.Value.TheVariants.{Int};
 ghost use Rattle.sqlite.specs.State.{HasCleanDisk};
 ghost use Rattle.sqlite.specs.Held.{state};
@@ -10,8 +10,10 @@ ghost use Rattle.tables.specs.Columns.{columns_with, fields_text, tag_columns, t
 ghost use Rattle.tables.specs.Contents.{Contents, Replies, Keeps, changed};
 ghost use Rattle.tables.specs.Steps.Puts.{PutsAll, GoesOn};
 ghost use Rattle.tables.specs.Steps.Clauses.{CommitsNothing, Edits};
+ghost use Rattle.tables.specs.Steps.Inserts.{InsertsOne, InsertsEight};
 ghost use Rattle.tables.specs.TableTrees.{tag_tree};
 ghost use Rattle.tables.specs.declared.slots.Part.TheVariants.{Tags};
+ghost use Rattle.tables.specs.declared.tags_part.WrittenTag.{WrittenTag};
 
 use crate::part_rows::{EIGHT, PartRow, insert_all};
 use crate::slots::{Part, insert_slot};
@@ -21,7 +23,6 @@ use sqlite::{Alter, Error, Transaction, params};
 use std::alloc::{AllocError, Global};
 use tags::{Field, Tag};
 
-/// The statements that insert one row, and eight.
 const INSERT_TAG: &str =
     "INSERT INTO tag (slot, line, name, file, address, kind, fields) VALUES (?1, ?2, ?3, ?4, ?5, ?6, ?7)";
 
@@ -46,6 +47,20 @@ impl PartRow for WrittenTag<'_> {
     ghost tree = { tag_tree };
 
     ghost columns = { λ row. columns_with (tag_value row.tag.now) (string_bytes row.fields) };
+
+    #[tactic(auto, using(crate::proofs::Inserts::tag_put))]
+    fn insert_one() -> &'static str
+        ensures { InsertsOne result.now tag_tree (λ (row : WrittenTag). columns_with (tag_value row.tag.now) (string_bytes row.fields)) }
+    {
+        INSERT_TAG
+    }
+
+    #[tactic(auto, using(crate::proofs::Inserts::tags_put))]
+    fn insert_eight() -> Option<&'static str>
+        ensures { IfSome result (λ text. InsertsEight text.now tag_tree (λ (row : WrittenTag). columns_with (tag_value row.tag.now) (string_bytes row.fields))) }
+    {
+        Some(INSERT_EIGHT_TAGS)
+    }
 
     fn bind<'a>(&'a self, slot: i64, values: &mut Vec<ValueRef<'a>>) -> Result<(), AllocError> {
         let tag = self.tag;
@@ -87,7 +102,7 @@ fn insert_rows<S: Alter>(
 {
     for group in tags.chunks(EIGHT) {
         let rows = written(alloc, group)?;
-        insert_all(alloc, tx, slot, INSERT_TAG, Some(INSERT_EIGHT_TAGS), &rows)?;
+        insert_all(alloc, tx, slot, &rows)?;
     }
     Ok(())
 }

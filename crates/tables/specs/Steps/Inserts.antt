@@ -5,10 +5,8 @@ use Rattle.sqlite_value.specs.declared.value.Value.TheVariants.{Null, Int}
 use Rattle.sqlite_value.specs.Order.{Row}
 use Rattle.sqlite_sql.specs.Term.{Term}
 use Rattle.sqlite_schema.specs.declared.schema.Table.{Table}
-use Rattle.sqlite_schema.specs.declared.schema.Keys.TheVariants.{Enforced}
 use Rattle.sqlite_schema.specs.declared.command.Source.TheVariants.{Values}
 use Rattle.sqlite_schema.specs.declared.command.Command.TheVariants.{Insert}
-use Rattle.sqlite_rules.specs.Action.{works}
 use Rattle.sqlite_rules.specs.Cast.{cast_row}
 use Rattle.sqlite.specs.Effect.{value_rows}
 use Rattle.sqlite.specs.Given.{IsPlain}
@@ -20,9 +18,9 @@ use Rattle.tables.specs.Schema.{schema_two}
 abbrev pub plainly : Table → Table
 plainly t = record t { stamps = record { places = []; terms = []; formats = [] }; is_counted = false }
 
--- The statement of this text is an INSERT of values into the table of this tree, whose rows no
--- foreign key refers to yet. Of these values it makes these rows, at least one, which the table
--- takes as they are, each with a rowid that is chosen for it.
+-- The statement of this text is an INSERT of values into the table of this tree. Of these values it
+-- makes these rows, at least one, which the table takes as they are, each with a rowid that is
+-- chosen for it.
 pub record Inserts (text : List ℕ) (tree : ℕ) (values : Row) (rows : List Row) : Type 0 where
   pub at : ℕ
   pub table : Table
@@ -32,18 +30,16 @@ pub record Inserts (text : List ℕ) (tree : ℕ) (values : Row) (rows : List Ro
   pub plain : IsPlain (understood schema_two text)
   pub placed : slice_get schema_two.tables at ≡ Some (plainly table)
   pub of_tree : table.tree ≡ tree
-  pub quiet : (row : Row) (more : List Row) → works schema_two Enforced 0 table.tree [] (row ∷ more) ≡ []
   pub first : Row
   pub rest : List Row
   pub some : rows ≡ first ∷ rest
   pub taken : map (cast_row (plainly table)) (value_rows values width (length terms / width) terms) ≡ map (λ v. Null ∷ v) rows
 
 -- it inserts one row, of its values
-abbrev pub InsertsOne : {X : Type 0} → List ℕ → ℕ → (X → Row) → Type 0
-InsertsOne {X} text tree columns = (slot : ℤ) (row : X) → Inserts text tree (Int slot ∷ columns row) ((Int slot ∷ columns row) ∷ [])
+pub record InsertsOne {X : Type 0} (text : List ℕ) (tree : ℕ) (columns : X → Row) : Type 0 where
+  pub one : (slot : ℤ) (row : X) → Inserts text tree (Int slot ∷ columns row) ((Int slot ∷ columns row) ∷ [])
 
 -- it inserts eight rows, of the values of one after the other
-abbrev pub InsertsEight : {X : Type 0} → List ℕ → ℕ → (X → Row) → Type 0
-InsertsEight {X} text tree columns =
-    (slot : ℤ) (rows : List X) → length rows ≡ 8
-    → Inserts text tree (flat_map (λ row. Int slot ∷ columns row) rows) (map (λ row. Int slot ∷ columns row) rows)
+pub record InsertsEight {X : Type 0} (text : List ℕ) (tree : ℕ) (columns : X → Row) : Type 0 where
+  pub eight : (slot : ℤ) (rows : List X) → length rows ≡ 8
+      → Inserts text tree (flat_map (λ row. Int slot ∷ columns row) rows) (map (λ row. Int slot ∷ columns row) rows)

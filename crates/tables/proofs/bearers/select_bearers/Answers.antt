@@ -1,10 +1,12 @@
 use Rattle.std.proofs.lemmas.Result.{IfOk-weaker}
 use Rattle.sqlite.specs.Held.{state}
-use Rattle.tables.proofs.FoundBearers.{select_bearers_reads, bearers_told}
+use Rattle.tables.proofs.Select.{reads}
+use Rattle.tables.proofs.Joined.{joined_is}
+use Rattle.tables.proofs.FoundBearers.{bearers_told}
 use Rattle.tables.proofs.bearers.select_bearers.Goals as goal
 
 pub select_all-requires : goal.select_all-requires
-select_all-requires g c = select_bearers_reads
+select_all-requires g c = reads joined_is
 
 pub returns-clause-found : goal.returns-clause-found
 returns-clause-found g c clean has m s =

@@ -2,12 +2,13 @@ use Rattle.std.proofs.Common.{◌≡◌, ◌∙◌, rules, Some, string_bytes, t
 use mir.Val.{SFits}
 use mir.Syntax.{w64}
 use Rattle.sqlite.specs.Held.{state}
-use Rattle.tables.proofs.FoundSlots.{select_project_reads, project_found}
+use Rattle.tables.proofs.Select.{reads}
+use Rattle.tables.proofs.FoundSlots.{select_project_is, project_found}
 use Rattle.tables.proofs.Knowing.{found_named, named_slot}
 use Rattle.tables.proofs.bearers.slot_project.Goals as goal
 
 pub select_first-requires : goal.select_first-requires
-select_first-requires g c = select_project_reads
+select_first-requires g c = reads select_project_is
 
 pub returns-then-known-slot-clause-project : goal.returns-then-known-slot-clause-project
 returns-then-known-slot-clause-project g c clean has parts replies is project part slot =

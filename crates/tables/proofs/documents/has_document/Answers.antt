@@ -1,11 +1,12 @@
 use Rattle.std.proofs.Common.{to_z-of_z, sym, subst, IsTrue, ◌↔◌}
 use Rattle.sqlite.specs.Held.{state}
 use Rattle.dump.specs.Places.{HasDocument}
-use Rattle.tables.proofs.FoundDocuments.{select_document_reads, document_found}
+use Rattle.tables.proofs.Select.{reads}
+use Rattle.tables.proofs.FoundDocuments.{select_document_is, document_found}
 use Rattle.tables.proofs.documents.has_document.Goals as goal
 
 pub select_first-requires : goal.select_first-requires
-select_first-requires g c = select_document_reads
+select_first-requires g c = reads select_document_is
 
 pub returns-clause-found : goal.returns-clause-found
 returns-clause-found g c clean has m s project dump slot there =

@@ -5,18 +5,8 @@ use Rattle.sqlite.specs.Held.{state}
 use Rattle.flatten.specs.Rows.{hover_value, mark_value, bearer_value}
 use Rattle.tables.specs.Columns.{hover_columns, mark_columns, bearer_columns}
 use Rattle.tables.specs.TableTrees.{bearer_tree, hover_tree, mark_tree}
-use Rattle.tables.proofs.Inserts.{hover_put, hovers_put, mark_put, marks_put, bearer_put, bearers_put}
 use Rattle.tables.proofs.Filling.{three_puts, put_values}
 use Rattle.tables.proofs.dump_part.insert_contents.Goals as goal
-
-pub insert_all-requires : goal.insert_all-requires
-insert_all-requires g c = record { one = λ slot row. hover_put slot (hover_value row); eight = λ slot rows. hovers_put hover_value slot rows }
-
-pub insert_all-requires-2 : goal.insert_all-requires-2
-insert_all-requires-2 g c = record { one = λ slot row. mark_put slot (mark_value row); eight = λ slot rows. marks_put mark_value slot rows }
-
-pub insert_all-requires-3 : goal.insert_all-requires-3
-insert_all-requires-3 g c = record { one = λ slot row. bearer_put slot (bearer_value row); eight = λ slot rows. bearers_put bearer_value slot rows }
 
 pub returns-clause-put : goal.returns-clause-put
 returns-clause-put g c clean inside has =

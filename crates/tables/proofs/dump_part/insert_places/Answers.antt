@@ -5,18 +5,8 @@ use Rattle.sqlite.specs.Held.{state}
 use Rattle.flatten.specs.Rows.{document_value, range_value, item_value}
 use Rattle.tables.specs.Columns.{document_columns, range_columns, item_columns}
 use Rattle.tables.specs.TableTrees.{document_tree, item_tree, range_row_tree}
-use Rattle.tables.proofs.Inserts.{document_put, range_row_put, range_rows_put, item_put, items_put}
 use Rattle.tables.proofs.Filling.{three_puts, put_values}
 use Rattle.tables.proofs.dump_part.insert_places.Goals as goal
-
-pub insert_all-requires : goal.insert_all-requires
-insert_all-requires g c = record { one = λ slot row. document_put slot (document_value row); eight = tt }
-
-pub insert_all-requires-2 : goal.insert_all-requires-2
-insert_all-requires-2 g c = record { one = λ slot row. range_row_put slot (range_value row); eight = λ slot rows. range_rows_put range_value slot rows }
-
-pub insert_all-requires-3 : goal.insert_all-requires-3
-insert_all-requires-3 g c = record { one = λ slot row. item_put slot (item_value row); eight = λ slot rows. items_put item_value slot rows }
 
 pub returns-clause-put : goal.returns-clause-put
 returns-clause-put g c clean inside has =

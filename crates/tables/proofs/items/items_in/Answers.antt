@@ -1,10 +1,11 @@
 use Rattle.std.proofs.Common.{to_z-of_z}
 use Rattle.sqlite.specs.Held.{state}
-use Rattle.tables.proofs.FoundItems.{select_items_reads, items_found}
+use Rattle.tables.proofs.Select.{reads}
+use Rattle.tables.proofs.FoundItems.{select_items_is, items_found}
 use Rattle.tables.proofs.items.items_in.Goals as goal
 
 pub select_all-requires : goal.select_all-requires
-select_all-requires g c = select_items_reads
+select_all-requires g c = reads select_items_is
 
 pub returns-clause-found : goal.returns-clause-found
 returns-clause-found g c clean has m s project slot =

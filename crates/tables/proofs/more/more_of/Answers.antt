@@ -2,11 +2,12 @@ use Rattle.std.proofs.Common.{to_z-of_z, rules, ◌≡◌, Option, Some, None, s
 use Rattle.sqlite.specs.Held.{state}
 use Rattle.flatten.specs.Rows.{results_value}
 use Rattle.tables.specs.declared.more.MoreRow.{MoreRow}
-use Rattle.tables.proofs.LineResults.{select_more_reads, more_found, says_none, Says}
+use Rattle.tables.proofs.Select.{reads}
+use Rattle.tables.proofs.LineResults.{select_more_is, more_found, says_none, Says}
 use Rattle.tables.proofs.more.more_of.Goals as goal
 
 pub select_first-requires : goal.select_first-requires
-select_first-requires g c = select_more_reads
+select_first-requires g c = reads select_more_is
 
 pub returns-in-Some-clause-more : goal.returns-in-Some-clause-more
 returns-in-Some-clause-more g c clean has m s project dump slot there results known =

@@ -1,10 +1,11 @@
 use Rattle.std.proofs.lemmas.Result.{IfOk-weaker}
 use Rattle.sqlite.specs.Held.{state}
-use Rattle.tables.proofs.FoundTags.{select_named_reads, named_found}
+use Rattle.tables.proofs.Select.{reads}
+use Rattle.tables.proofs.FoundTags.{select_named_is, named_found}
 use Rattle.tables.proofs.names.select_named.Goals as goal
 
 pub select_all-requires : goal.select_all-requires
-select_all-requires g c = select_named_reads
+select_all-requires g c = reads select_named_is
 
 pub returns-clause-rows : goal.returns-clause-rows
 returns-clause-rows g c clean has m s =

@@ -1,11 +1,12 @@
 use Rattle.std.proofs.lemmas.Result.{IfOk-weaker}
 use Rattle.sqlite.specs.Held.{state}
-use Rattle.tables.proofs.PrefixedTags.{select_prefixed_reads, told_prefixed}
+use Rattle.tables.proofs.Select.{reads}
+use Rattle.tables.proofs.PrefixedTags.{select_prefixed_is, told_prefixed}
 use Rattle.tables.proofs.Prefixes.{bound_so}
 use Rattle.tables.proofs.names.select_prefixed.Goals as goal
 
 pub select_all-requires : goal.select_all-requires
-select_all-requires g c = select_prefixed_reads
+select_all-requires g c = reads select_prefixed_is
 
 pub returns-clause-rows : goal.returns-clause-rows
 returns-clause-rows g c clean has m s =

@@ -14,9 +14,6 @@ loop-group-init g c = record {
   put = ([], search rules, λ clean inside has. puts_none _ _ has inside);
 }
 
-pub insert_by-requires : goal.insert_by-requires
-insert_by-requires g c = record { inserts = (rw c.in-Some-eight.is at c.requires.eight) _ _ c.if-group-eq-EIGHT.true }
-
 pub loop-group-preserved : goal.loop-group-preserved
 loop-group-preserved g c =
     let so_far = c.loop-group.invariant.put in
@@ -26,34 +23,14 @@ loop-group-preserved g c =
       can_next = search rules;
       is_finite = tt;
       size = steps.0 ∙ c.loop-group.invariant.size;
-      uncommitted = nothing_then c.loop-group.invariant.uncommitted c.insert_each.ensures.uncommitted;
+      uncommitted = nothing_then c.loop-group.invariant.uncommitted c.insert_few.ensures.uncommitted;
       put = (
         so_far.0 ++ group,
         append_assoc so_far.0 _ _ ∙ (ap (λ (rest : List g.row.R.Denot). so_far.0 ++ rest) (sym steps.1.0) ∙ so_far.1),
         λ clean inside has.
-            let was = so_far.2 (omega (arith, c.insert_each.ensures.uncommitted.survives.clean)) inside has in
-            let put = c.in_ok-insert_each-in_default.ensures.put clean was.0.inside was.0.schema in
-            subst (λ list. Steps (PutsAll g.R.PartRow.tree list) (state g.S.Store c.args.tx.now.conn.now) (state g.S.Store c.insert_each.new.tx.conn.now)) (sym (map-append _ so_far.0 group)) (puts_then _ _ _ _ _ _ was put),
-      );
-    }
-
-pub loop-group-preserved-then-group-eq-EIGHT : goal.loop-group-preserved-then-group-eq-EIGHT
-loop-group-preserved-then-group-eq-EIGHT g c =
-    let so_far = c.loop-group.invariant.put in
-    let steps = c.in-Some.ensures.steps in
-    let group = c.in-Some.group.now in
-    record {
-      can_next = search rules;
-      is_finite = tt;
-      size = steps.0 ∙ c.loop-group.invariant.size;
-      uncommitted = nothing_then c.loop-group.invariant.uncommitted c.insert_by.ensures.uncommitted;
-      put = (
-        so_far.0 ++ group,
-        append_assoc so_far.0 _ _ ∙ (ap (λ (rest : List g.row.R.Denot). so_far.0 ++ rest) (sym steps.1.0) ∙ so_far.1),
-        λ clean inside has.
-            let was = so_far.2 (omega (arith, c.insert_by.ensures.uncommitted.survives.clean)) inside has in
-            let put = c.in_ok-insert_by-in-Some-eight.ensures.put clean was.0.inside was.0.schema in
-            subst (λ list. Steps (PutsAll g.R.PartRow.tree list) (state g.S.Store c.args.tx.now.conn.now) (state g.S.Store c.insert_by.new.tx.conn.now)) (sym (map-append _ so_far.0 group)) (puts_then _ _ _ _ _ _ was put),
+            let was = so_far.2 (omega (arith, c.insert_few.ensures.uncommitted.survives.clean)) inside has in
+            let put = c.in_ok-insert_few.ensures.put clean was.0.inside was.0.schema in
+            subst (λ list. Steps (PutsAll g.R.PartRow.tree list) (state g.S.Store c.args.tx.now.conn.now) (state g.S.Store c.insert_few.new.tx.conn.now)) (sym (map-append _ so_far.0 group)) (puts_then _ _ _ _ _ _ was put),
       );
     }
 

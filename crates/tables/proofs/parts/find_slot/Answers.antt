@@ -1,11 +1,12 @@
 use Rattle.std.proofs.Common.{rules, ◌≡◌, ◌∙◌, to_z, of_z, w64}
 use Rattle.std.proofs.lemmas.Result.{IfOk-weaker}
 use Rattle.sqlite.specs.Held.{state}
-use Rattle.tables.proofs.FoundSlots.{select_slot_reads, slot_found}
+use Rattle.tables.proofs.Select.{reads}
+use Rattle.tables.proofs.FoundSlots.{select_slot_is, slot_found}
 use Rattle.tables.proofs.parts.find_slot.Goals as goal
 
 pub select_first-requires : goal.select_first-requires
-select_first-requires g c = select_slot_reads
+select_first-requires g c = reads select_slot_is
 
 pub returns-clause-slot : goal.returns-clause-slot
 returns-clause-slot g c clean has parts replies is =

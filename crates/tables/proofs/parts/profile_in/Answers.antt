@@ -1,10 +1,11 @@
 use Rattle.std.proofs.Common.{to_z-of_z, rules, ◌≡◌, Some}
 use Rattle.sqlite.specs.Held.{state}
-use Rattle.tables.proofs.Profiles.{select_profile_reads, profile_found}
+use Rattle.tables.proofs.Select.{reads}
+use Rattle.tables.proofs.Profiles.{select_profile_is, profile_found}
 use Rattle.tables.proofs.parts.profile_in.Goals as goal
 
 pub select_first-requires : goal.select_first-requires
-select_first-requires g c = select_profile_reads
+select_first-requires g c = reads select_profile_is
 
 pub returns-clause-profile : goal.returns-clause-profile
 returns-clause-profile g c clean has m s project dump slot there =

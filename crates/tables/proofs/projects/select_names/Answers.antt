@@ -1,9 +1,10 @@
 use Rattle.sqlite.specs.Held.{state}
-use Rattle.tables.proofs.ProjectNames.{select_projects_reads, names_found}
+use Rattle.tables.proofs.Select.{reads}
+use Rattle.tables.proofs.ProjectNames.{select_projects_is, names_found}
 use Rattle.tables.proofs.projects.select_names.Goals as goal
 
 pub select_all-requires : goal.select_all-requires
-select_all-requires g c = select_projects_reads
+select_all-requires g c = reads select_projects_is
 
 pub returns-clause-names : goal.returns-clause-names
 returns-clause-names g c clean has parts replies is =

@@ -3,11 +3,12 @@ use Rattle.std.specs.Prelude.{IfSome}
 use Rattle.sqlite.specs.Held.{state}
 use Rattle.tables.specs.declared.range_rows.SlotRange.{SlotRange}
 use Rattle.tables.specs.Steps.Selected.{IsFirstRead}
-use Rattle.tables.proofs.FoundRanges.{IsSound, found_columns, select_range_reads, range_found}
+use Rattle.tables.proofs.Select.{reads}
+use Rattle.tables.proofs.FoundRanges.{IsSound, found_columns, select_range_is, range_found}
 use Rattle.tables.proofs.range_rows.parent_of.Goals as goal
 
 pub select_first-requires : goal.select_first-requires
-select_first-requires g c = select_range_reads
+select_first-requires g c = reads select_range_is
 
 pub returns-in-Some-found-clause-named : goal.returns-in-Some-found-clause-named
 returns-in-Some-found-clause-named g c clean has m s project dump slot there =

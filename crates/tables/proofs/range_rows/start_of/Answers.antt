@@ -3,11 +3,12 @@ use Rattle.std.proofs.lemmas.Result.{IfOk-weaker}
 use Rattle.sqlite.specs.Held.{state}
 use Rattle.sqlite_exec.proofs.LoopsLemmas.{ok_both}
 use Rattle.positions.specs.Position.{IsPosition}
-use Rattle.tables.proofs.RangeStarts.{select_start_reads, start_found}
+use Rattle.tables.proofs.Select.{reads}
+use Rattle.tables.proofs.RangeStarts.{select_start_is, start_found}
 use Rattle.tables.proofs.range_rows.start_of.Goals as goal
 
 pub select_first-requires : goal.select_first-requires
-select_first-requires g c = select_start_reads
+select_first-requires g c = reads select_start_is
 
 pub returns-clause-start : goal.returns-clause-start
 returns-clause-start g c clean has m s project dump slot there =

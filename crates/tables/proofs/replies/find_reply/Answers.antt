@@ -1,12 +1,13 @@
 use Rattle.std.proofs.lemmas.Result.{IfOk-weaker}
 use Rattle.sqlite.specs.Held.{state}
 use Rattle.tables.specs.Stands.{replies_of}
-use Rattle.tables.proofs.Commands.{select_reply_reads}
+use Rattle.tables.proofs.Select.{reads}
+use Rattle.tables.proofs.Commands.{select_reply_is}
 use Rattle.tables.proofs.KeptReplies.{reply_found}
 use Rattle.tables.proofs.replies.find_reply.Goals as goal
 
 pub select_first-requires : goal.select_first-requires
-select_first-requires g c = select_reply_reads
+select_first-requires g c = reads select_reply_is
 
 pub returns-clause-found : goal.returns-clause-found
 returns-clause-found g c clean has m s =

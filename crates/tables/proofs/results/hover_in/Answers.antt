@@ -1,11 +1,12 @@
 use Rattle.std.proofs.Common.{to_z-of_z}
 use Rattle.std.proofs.lemmas.Result.{IfOk-weaker}
 use Rattle.sqlite.specs.Held.{state}
-use Rattle.tables.proofs.Hovers.{select_hover_reads, hover_found}
+use Rattle.tables.proofs.Select.{reads}
+use Rattle.tables.proofs.Hovers.{select_hover_is, hover_found}
 use Rattle.tables.proofs.results.hover_in.Goals as goal
 
 pub select_first-requires : goal.select_first-requires
-select_first-requires g c = select_hover_reads
+select_first-requires g c = reads select_hover_is
 
 pub returns-clause-found : goal.returns-clause-found
 returns-clause-found g c clean has m s project slot =

@@ -9,7 +9,6 @@ use Rattle.tables.specs.TableTrees.{tag_tree}
 use Rattle.tables.specs.Steps.Puts.{Steps, PutsAll}
 use Rattle.tables.specs.declared.tags_part.WrittenTag.{WrittenTag}
 use Rattle.tables.proofs.Filling.{put_same}
-use Rattle.tables.proofs.Inserts.{tag_put, tags_put}
 use Rattle.tables.proofs.Puts.{puts_none, puts_then, nothing_then, nothing_yet}
 use Rattle.tables.proofs.tags_part.insert_rows.Goals as goal
 
@@ -43,9 +42,6 @@ loop-group-preserved g c =
             subst (λ list. Steps (PutsAll tag_tree list) (state g.S.Store c.args.tx.now.conn.now) (state g.S.Store c.insert_all.new.tx.conn.now)) (sym (map-append _ so_far.0 group)) (puts_then _ _ _ _ _ _ was put),
       );
     }
-
-pub insert_all-requires : goal.insert_all-requires
-insert_all-requires g c = record { one = λ slot row. tag_put slot (tag_value row.tag.now, string_bytes row.fields); eight = λ slot rows. tags_put (λ row. (tag_value row.tag.now, string_bytes row.fields)) slot rows }
 
 pub returns-clause-put : goal.returns-clause-put
 returns-clause-put g c clean inside has =
