@@ -4,4 +4,4 @@ mod cutter;
 mod ends;
 mod lines;
 mod reading;
-mod streams;
+mod sources;
