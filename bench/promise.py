@@ -1,7 +1,7 @@
 """Which definitions the promise of `replay` rests on, file by file, with their lines: what
 docs/DEFINITIONS.md says in its last part, which a test of the tools compares with this.
 
-usage: bench/promise.py [NAME..]   (default Replays; names of crates/codenav/specs/Replay.antt)
+usage: bench/promise.py [NAME..]   (default Replays; names of crates/calls/specs/Replay.antt)
 
 A definition rests on each that its text names, in its file or by a `use` of it. Not counted are
 blank lines and comments, the types of the program itself (`specs.declared`), the libraries of the
@@ -17,7 +17,7 @@ from pathlib import Path
 from typing import Iterator, Optional
 
 TOP = Path(__file__).resolve().parent.parent
-REPLAY = "codenav/specs/Replay"
+REPLAY = "calls/specs/Replay"
 USE = re.compile(r"^(?:pub )?use Rattle\.([\w.]+?)(?:\.\{(.*)\}| as (\w+))$")
 BEGIN = re.compile(r"^(?:(?:abbrev|unfoldable|printed|pub|data|record) )+(\w+)")
 INNER = re.compile(r"^  (?:pub )?([\w']+) :")
