@@ -16,7 +16,7 @@ from pathlib import Path
 from typing import Iterator, Optional
 
 TOP = Path(__file__).resolve().parent.parent
-REPLAY = "codenav/specs/Replay"
+REPLAY = "calls/specs/Replay"
 USE = re.compile(r"^(?:pub )?use Rattle\.([\w.]+?)(?:\.\{(.*)\}| as (\w+))$")
 BEGIN = re.compile(r"^(?:(?:abbrev|unfoldable|printed|pub|data|record) )+(\w+)")
 INNER = re.compile(r"^  (?:pub )?([\w']+) :")
@@ -138,7 +138,7 @@ def main() -> int:
     options = argparse.ArgumentParser(
         description=__doc__, formatter_class=argparse.RawDescriptionHelpFormatter
     )
-    each = "a name of crates/codenav/specs/Replay.antt; Replays without it"
+    each = "a name of crates/calls/specs/Replay.antt; Replays without it"
     options.add_argument("names", nargs="*", metavar="NAME", help=each)
     names = options.parse_args().names or ["Replays"]
     if unknown := [name for name in names if name not in specs(REPLAY).lines]:

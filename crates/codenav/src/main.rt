@@ -1,33 +1,17 @@
-//! `codenav`, a code navigation index server: calls what the words of the command line ask for, and
-//! ends with its status. `specs/Call`.
+//! `codenav`, a code navigation index server: does what the words of the command line ask for, by
+//! the crate `calls`, and ends with its status.
 #![tactic(auto)]
 
 ghost use Rattle.std.specs.Prelude.{◌≡◌, false};
 
-mod call;
-mod check;
-mod check_tags;
-mod command_line;
-mod database;
-mod limits;
-mod program_fault;
-mod replay;
-mod report;
-mod serve;
-#[cfg(test)]
-mod tests;
-mod timed;
-
-use call::{Call, CallFault, read_call};
-use check::check_lsif;
-use check_tags::check_tags;
-use database::{MEMORY, close_connection, connect_file, connection_of, migrate_file, open_desk};
+use calls::{
+    Call, CallFault, CountedListener, Limits, MEMORY, ProgramFault, REST_SECONDS, WAIT_SECONDS,
+    WHOLE_SECONDS, check_lsif, check_tags, close_connection, connect_file, connection_of,
+    migrate_file, open_desk, read_call, replay_file, replay_in_memory, serve_connections,
+    serve_in_memory,
+};
 use desk::{MemoryDesk, TableDesk};
-use limits::{REST_SECONDS, WAIT_SECONDS, WHOLE_SECONDS};
 use lsif::Profile;
-use program_fault::ProgramFault;
-use replay::{replay_file, replay_in_memory};
-use serve::{CountedListener, serve_connections, serve_in_memory};
 use sqlite::{Alter, Connection, Unknown};
 use std::alloc::Global;
 use std::net::{Ipv4Addr, Net, SocketAddr, TcpListener};
@@ -37,7 +21,6 @@ use std::time::Duration;
 use std::{env, fs, io};
 use streams::Counted;
 use tables::TablesFault;
-use timed::Limits;
 
 /// The status of a call that could not be carried out.
 const FAILED: u8 = 2;

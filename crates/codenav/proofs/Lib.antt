@@ -1,8 +1,0 @@
-pub mod Calls
-pub mod Connections
-pub mod Databases
-pub mod Judgings
-pub mod Numbers
-pub mod TagsJudgings
-pub mod TagsLines
-pub mod Waits
