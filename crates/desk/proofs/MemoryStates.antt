@@ -1,22 +1,21 @@
 -- What holds of one dump in memory, for a state in which a project has it.
 use Rattle.std.proofs.Common.{◌≡◌, ◌⊎◌, inl, inr, ◌∙◌, Bool, true, false, List, [], map, ℕ, Option, Some, None, sym, subst}
 use Rattle.std.specs.Prelude.{Result, Ok, Err, OnOk, OnErr, bytes_eq, if◌then◌else◌}
-use Rattle.std.specs.List.Sorted.{IsStrictlySortedBy}
 use Rattle.std.specs.Result.{IsErrAnd}
-use Rattle.std.specs.declared.cmp.Ordering.{Ordering}
 use Rattle.lsif.specs.Element.{ElementValue}
 use Rattle.dump.specs.Fault.{IsFaultless}
 use Rattle.dump.specs.declared.role.Role.{Role}
-use Rattle.dump.specs.Places.{IsListing, PlaceValue, place_cmp}
+use Rattle.dump.specs.Places.{PlaceValue}
 use Rattle.dump.specs.Progress.{DumpValue}
 use Rattle.flatten.specs.Flat.{IsHoverRow}
 use Rattle.tags.specs.Values.{TagValue}
 use Rattle.machine.specs.State.{State, Change, set_dump, set_tags, clear, changed, dump_after}
-use Rattle.machine.specs.Selections.{MarkText, FindsHover, FindsItems, FindsMarks, mark_text_cmp}
+use Rattle.machine.specs.Selections.{MarkText, FindsHover, FindsItems, FindsMarks}
 use Rattle.desk.specs.Indexes.{AreFaultless}
 use Rattle.desk.specs.Steps.Selected.{IsItemOf, IsMarkOf, IsHoverOf, hover_row}
+use Rattle.desk.specs.Steps.Rows.{AreThose}
+use Rattle.desk.proofs.Finding.{iff_trans}
 use Rattle.streams.proofs.Members.{not_in_nil}
-use Rattle.dump.proofs.Listing.{same_listing as relisted}
 
 same_dump : (c d : DumpValue) → ◌≡◌ {A = Option DumpValue} (Some c) (Some d) → c ≡ d
 same_dump c d e = cc
@@ -29,24 +28,23 @@ module _ (m : State) (project : List ℕ) where
   abbrev InDump : {V : Type 0} → (List ElementValue → V → Type 0) → V → Type 0
   InDump P v = (dump : DumpValue) × (m.dump project ≡ Some dump) × P dump.elements v
 
-  in_dump : {V : Type 0} (cmp : V → V → Ordering) (P : List ElementValue → V → Type 0) (dump : DumpValue) (xs : List V) → m.dump project ≡ Some dump → IsListing cmp (P dump.elements) xs → IsListing cmp (InDump P) xs
-  in_dump cmp P dump xs has l = relisted cmp (P dump.elements) (InDump P) xs (λ v. ((λ p. (dump, has, p)), (λ h. subst (λ (d : DumpValue). P d.elements v) (same_dump h.0 dump (sym h.1 ∙ has)) h.2))) l
+  in_dump : {V : Type 0} (P : List ElementValue → V → Type 0) (dump : DumpValue) (xs : List V) → m.dump project ≡ Some dump → AreThose (P dump.elements) xs → AreThose (InDump P) xs
+  in_dump P dump xs has are v = iff_trans (are v) ((λ p. (dump, has, p)), (λ h. subst (λ (d : DumpValue). P d.elements v) (same_dump h.0 dump (sym h.1 ∙ has)) h.2))
 
-  in_none : {V : Type 0} (cmp : V → V → Ordering) (P : List ElementValue → V → Type 0) → m.dump project ≡ None → IsListing cmp (InDump P) []
-  unfolding IsStrictlySortedBy
-  in_none cmp P none = record { rises = tt; each = λ v. ((λ at. absurd (not_in_nil v at)), (λ h. absurd (no_dump h.0 (sym none ∙ h.1)))) }
+  in_none : {V : Type 0} (P : List ElementValue → V → Type 0) → m.dump project ≡ None → AreThose (InDump P) []
+  in_none P none v = ((λ at. absurd (not_in_nil v at)), (λ h. absurd (no_dump h.0 (sym none ∙ h.1))))
 
-  pub finds_items : (result : ℕ) (role : Role) (dump : DumpValue) (xs : List PlaceValue) → m.dump project ≡ Some dump → IsListing place_cmp (IsItemOf dump.elements result role) xs → FindsItems m project result role xs
-  finds_items result role dump xs has l = in_dump place_cmp (λ es v. IsItemOf es result role v) dump xs has l
+  pub finds_items : (result : ℕ) (role : Role) (dump : DumpValue) (xs : List PlaceValue) → m.dump project ≡ Some dump → AreThose (IsItemOf dump.elements result role) xs → FindsItems m project result role xs
+  finds_items result role = in_dump (λ es v. IsItemOf es result role v)
 
   pub finds_no_items : (result : ℕ) (role : Role) → m.dump project ≡ None → FindsItems m project result role []
-  finds_no_items result role none = in_none place_cmp (λ es v. IsItemOf es result role v) none
+  finds_no_items result role = in_none (λ es v. IsItemOf es result role v)
 
-  pub finds_marks : (line : ℕ) (dump : DumpValue) (xs : List MarkText) → m.dump project ≡ Some dump → IsListing mark_text_cmp (IsMarkOf dump.elements line) xs → FindsMarks m project line xs
-  finds_marks line dump xs has l = in_dump mark_text_cmp (λ es v. IsMarkOf es line v) dump xs has l
+  pub finds_marks : (line : ℕ) (dump : DumpValue) (xs : List MarkText) → m.dump project ≡ Some dump → AreThose (IsMarkOf dump.elements line) xs → FindsMarks m project line xs
+  finds_marks line = in_dump (λ es v. IsMarkOf es line v)
 
   pub finds_no_marks : (line : ℕ) → m.dump project ≡ None → FindsMarks m project line []
-  finds_no_marks line none = in_none mark_text_cmp (λ es v. IsMarkOf es line v) none
+  finds_no_marks line = in_none (λ es v. IsMarkOf es line v)
 
   pub finds_hover : (result : ℕ) (dump : DumpValue) (o : Option (List ℕ)) → m.dump project ≡ Some dump → IsHoverOf dump.elements result o → FindsHover m project result o
   finds_hover result dump (Some contents) has h = (dump, has, h)

@@ -90,17 +90,17 @@ one_of request own b j w h = (to, λ e. subst (OfBearer request own b) e h)
 -- the items of a result in a role are its places
 pub role_items : (m : State) (t : ProjectResultValue) (p q : List ℕ) → p ≡ t.project → q ≡ t.project → (role : Role) (items : List PlaceValue) → FindsItems m p t.number role items → (place : FoundPlace)
     → ((item : PlaceValue) × Contains items item × (found_in q item ≡ place)) ↔ IsRolePlace m role t place
-role_items m t p q is same role items listing place = (to, back)
+role_items m t p q is same role items found place = (to, back)
   where
     to : (item : PlaceValue) × Contains items item × (found_in q item ≡ place) → IsRolePlace m role t place
     to (item, at, e) =
-        let has = subst (λ (x : List ℕ). HasItem m x t.number role item) is ((listing.each item).0 at) in
+        let has = subst (λ (x : List ℕ). HasItem m x t.number role item) is ((found item).0 at) in
         (sym same ∙ ap (λ (f : FoundPlace). f.project) e, subst (HasItem m t.project t.number role) (ap (λ (f : FoundPlace). f.place) e) has)
 
     back : IsRolePlace m role t place → (item : PlaceValue) × Contains items item × (found_in q item ≡ place)
     back (there, has) =
         let project = same ∙ there in
-        (place.place, (listing.each place.place).1 (subst (λ (x : List ℕ). HasItem m x t.number role place.place) (sym is) has), λ i. record { project = project i; place = place.place })
+        (place.place, (found place.place).1 (subst (λ (x : List ℕ). HasItem m x t.number role place.place) (sym is) has), λ i. record { project = project i; place = place.place })
 
 -- the range's own result and those of joined vertices are the results that answer
 pub results_are : (m : State) (request : RequestKind) (own : List ℕ) (row : RangeFound) (texts : List (List ℕ)) (joined : List JoinedValue) (t : ProjectResultValue) {A B : Type 0} → AreKeys m request own row.line texts

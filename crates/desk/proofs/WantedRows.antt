@@ -1,26 +1,23 @@
--- The rows of a listing of which something is wanted are a listing of that.
+-- The rows of a listing of which something is wanted, and what is wanted of them.
 use Rattle.std.proofs.Common.{◌≡◌, inl, inr, ◌∙◌, ◌&&◌, ◌++◌, ◌≤◌, ℕ, zero, suc, Bool, true, false, List, [], ◌∷◌, length, map, drop, refl, sym, ap, subst, arith}
 use Rattle.std.specs.Prelude.{◌==◌, Contains, Option, Some, None, bytes_eq, if◌then◌else◌}
 use Rattle.std.specs.List.{AllByRecursion, filter_map, cons_option}
-use Rattle.std.specs.Cmp.{nat_cmp_total}
-use Rattle.std.specs.Cmp.Lexicographic.{slice_cmp}
-use Rattle.std.specs.Ordering.{nat_cmp, ordering_then}
 use Rattle.std.specs.declared.cmp.Ordering.{Ordering}
-use Rattle.std.specs.declared.cmp.Ordering.TheVariants.{Less, Equal, Greater}
+use Rattle.std.specs.declared.cmp.Ordering.TheVariants.{Less}
 use Rattle.std.specs.List.Sorted.{IsStrictlySortedBy}
-use Rattle.std.proofs.lemmas.Cmp.{tied_itself, nat_list_cmp_total}
 use Rattle.positions.specs.Position.{PositionValue}
 use Rattle.positions.specs.Span.{Covers, covers}
 use Rattle.lsif.specs.Element.{ElementValue}
 use Rattle.dump.specs.contracts.role.RolePartialEq.TheImpl as role_eq
 use Rattle.dump.specs.declared.role.Role.{Role}
 use Rattle.dump.specs.declared.role.Role.TheVariants.{Definitions, References}
-use Rattle.dump.specs.Places.{IsListing, PlaceValue, place_cmp}
+use Rattle.dump.specs.Places.{IsListing, PlaceValue}
 use Rattle.dump.specs.Progress.{DumpValue}
-use Rattle.flatten.specs.Flat.{RangeRowValue, ItemRowValue, MarkRowValue, HoverRowValue, BearerRowValue, IsRangeRow, IsItemRow, IsMarkRow, IsHoverRow, IsBearerRow, by_line, item_cmp, mark_cmp, by_result, bearer_cmp, role_index, kind_index}
-use Rattle.machine.specs.Selections.{MarkText, mark_text_cmp, BearerFound, bearer_row}
+use Rattle.flatten.specs.Flat.{RangeRowValue, ItemRowValue, MarkRowValue, HoverRowValue, BearerRowValue, IsRangeRow, IsItemRow, IsMarkRow, IsHoverRow, IsBearerRow, by_line, item_cmp, mark_cmp, by_result, bearer_cmp}
+use Rattle.machine.specs.Selections.{MarkText, BearerFound, bearer_row}
 use Rattle.tables.specs.Steps.Climbs.{IsCoverRow}
-use Rattle.desk.specs.Steps.Selected.{item_row, item_wanted, IsItemOf, mark_row, mark_wanted, IsMarkOf, hover_row, hover_wanted, IsHoverOf, bearer_wanted, bearer_in_cmp, IsBearerOf, range_wanted}
+use Rattle.desk.specs.Steps.Rows.{AreThose}
+use Rattle.desk.specs.Steps.Selected.{item_row, item_wanted, IsItemOf, mark_row, mark_wanted, IsMarkOf, hover_row, hover_wanted, IsHoverOf, bearer_wanted, IsBearerOf, range_wanted}
 use Rattle.machine.proofs.Covers.{covers_of, covers_from}
 use Rattle.streams.proofs.Bools.{eq_of, and_both, and_of}
 use Rattle.streams.proofs.Lists.{text_eq}
@@ -50,6 +47,9 @@ module _ {R V : Type 0} (wanted : R → Option V) (row : V → R) (IsSo : V → 
       by None at = at
       by (Some w) at = contains_tail w (filter_map wanted rows) v at
 
+  pub wanted_are : (P : R → Type 0) (S : V → Type 0) → ((v : V) → P (row v) → IsSo v → S v) → ((v : V) → S v → P (row v) × IsSo v) → (rows : List R) → AreThose P rows → AreThose S (filter_map wanted rows)
+  wanted_are P S to from rows are v = ((λ at. let h = wanted_from rows v at in to v ((are (row v)).0 h.0) h.1), (λ s. let h = from v s in wanted_to rows v h.1 ((are (row v)).1 h.0)))
+
   module _ (row_cmp : R → R → Ordering) (cmp : V → V → Ordering) (same_cmp : (v w : V) → row_cmp (row v) (row w) ≡ cmp v w) where
     wanted_above : (w : V) (rows : List R) → AllByRecursion (λ y. row_cmp (row w) y ≡ Less) rows → AllByRecursion (λ y. cmp w y ≡ Less) (filter_map wanted rows)
     wanted_above w [] h = tt
@@ -69,10 +69,7 @@ module _ {R V : Type 0} (wanted : R → Option V) (row : V → R) (IsSo : V → 
         by (Some v) e more = (wanted_above v rows (subst (λ x. AllByRecursion (λ y. row_cmp x y ≡ Less) rows) (back r v e).0 h.0), more)
 
     pub wanted_listing : (P : R → Type 0) (S : V → Type 0) → ((v : V) → P (row v) → IsSo v → S v) → ((v : V) → S v → P (row v) × IsSo v) → (rows : List R) → IsListing row_cmp P rows → IsListing cmp S (filter_map wanted rows)
-    wanted_listing P S to from rows l = record {
-      rises = wanted_rises rows l.rises;
-      each = λ v. ((λ at. let h = wanted_from rows v at in to v ((l.each (row v)).0 h.0) h.1), (λ s. let h = from v s in wanted_to rows v h.1 ((l.each (row v)).1 h.0)));
-    }
+    wanted_listing P S to from rows l = record { rises = wanted_rises rows l.rises; each = wanted_are P S to from rows l.each }
 
 -- ---- loops over rows
 
@@ -111,20 +108,9 @@ when_some false x v e = cc
 nat_itself : (n : ℕ) → (n == n) ≡ true
 nat_itself n = grind arith
 
-nat_cmp_itself : (n : ℕ) → nat_cmp n n ≡ Equal
-nat_cmp_itself n = tied_itself nat_cmp_total n
-
 text_itself : (xs : List ℕ) → bytes_eq xs xs ≡ true
 text_itself [] = refl
 text_itself (x ∷ xs) = and_of (x == x) (bytes_eq xs xs) (nat_itself x) (text_itself xs)
-
-text_cmp_itself : (xs : List ℕ) → slice_cmp nat_cmp xs xs ≡ Equal
-text_cmp_itself xs = tied_itself nat_list_cmp_total xs
-
-then_equal : (o : Ordering) → ordering_then o Equal ≡ o
-then_equal Less = refl
-then_equal Equal = refl
-then_equal Greater = refl
 
 -- ---- items
 
@@ -153,12 +139,9 @@ module _ (result : ℕ) (role : Role) where
   item_gives : (v : PlaceValue) → IsAny v → item_wanted result role (item_row result role v) ≡ Some v
   item_gives v so = let e = and_of (result == result) (role_eq.ghosts.eq role role) (nat_itself result) (role_itself role) in rw e refl
 
-  item_same : (v w : PlaceValue) → item_cmp (item_row result role v) (item_row result role w) ≡ place_cmp v w
-  item_same v w = let e = nat_cmp_itself result in let f = nat_cmp_itself (role_index role) in rw (e, f) refl
-
-  pub items_wanted : (elements : List ElementValue) (rows : List ItemRowValue) → IsListing item_cmp (IsItemRow elements) rows → IsListing place_cmp (IsItemOf elements result role) (filter_map (item_wanted result role) rows)
+  pub items_wanted : (elements : List ElementValue) (rows : List ItemRowValue) → IsListing item_cmp (IsItemRow elements) rows → AreThose (IsItemOf elements result role) (filter_map (item_wanted result role) rows)
   items_wanted elements rows l =
-      wanted_listing (item_wanted result role) (item_row result role) IsAny item_back item_gives item_cmp place_cmp item_same (IsItemRow elements) (IsItemOf elements result role) (λ v p so. p) (λ v p. (p, tt)) rows l
+      wanted_are (item_wanted result role) (item_row result role) IsAny item_back item_gives (IsItemRow elements) (IsItemOf elements result role) (λ v p so. p) (λ v p. (p, tt)) rows l.each
 
 -- ---- marks
 
@@ -172,11 +155,8 @@ module _ (line : ℕ) where
   mark_gives : (v : MarkText) → IsAny v → mark_wanted line (mark_row line v) ≡ Some v
   mark_gives v so = let e = nat_itself line in rw e refl
 
-  mark_same : (v w : MarkText) → mark_cmp (mark_row line v) (mark_row line w) ≡ mark_text_cmp v w
-  mark_same v w = let e = nat_cmp_itself line in rw e refl
-
-  pub marks_wanted : (elements : List ElementValue) (rows : List MarkRowValue) → IsListing mark_cmp (IsMarkRow elements) rows → IsListing mark_text_cmp (IsMarkOf elements line) (filter_map (mark_wanted line) rows)
-  marks_wanted elements rows l = wanted_listing (mark_wanted line) (mark_row line) IsAny mark_back mark_gives mark_cmp mark_text_cmp mark_same (IsMarkRow elements) (IsMarkOf elements line) (λ v p so. p) (λ v p. (p, tt)) rows l
+  pub marks_wanted : (elements : List ElementValue) (rows : List MarkRowValue) → IsListing mark_cmp (IsMarkRow elements) rows → AreThose (IsMarkOf elements line) (filter_map (mark_wanted line) rows)
+  marks_wanted elements rows l = wanted_are (mark_wanted line) (mark_row line) IsAny mark_back mark_gives (IsMarkRow elements) (IsMarkOf elements line) (λ v p so. p) (λ v p. (p, tt)) rows l.each
 
 -- ---- hovers
 
@@ -209,12 +189,9 @@ module _ (project key : List ℕ) where
   bearer_gives : (b : BearerFound) → IsTheirs b → bearer_wanted project key (bearer_row key b) ≡ Some b
   bearer_gives b so = let e = text_itself key in rw e (λ i. Some (record { project = sym so i; line = b.line; kind = b.kind; results = b.results }))
 
-  bearer_same : (b c : BearerFound) → bearer_cmp (bearer_row key b) (bearer_row key c) ≡ bearer_in_cmp b c
-  bearer_same b c = let e = text_cmp_itself key in rw e (ap (ordering_then (nat_cmp b.line c.line)) (then_equal (nat_cmp (kind_index b.kind) (kind_index c.kind))))
-
-  pub bearers_wanted : (elements : List ElementValue) (rows : List BearerRowValue) → IsListing bearer_cmp (IsBearerRow elements) rows → IsListing bearer_in_cmp (IsBearerOf elements project key) (filter_map (bearer_wanted project key) rows)
+  pub bearers_wanted : (elements : List ElementValue) (rows : List BearerRowValue) → IsListing bearer_cmp (IsBearerRow elements) rows → AreThose (IsBearerOf elements project key) (filter_map (bearer_wanted project key) rows)
   bearers_wanted elements rows l =
-      wanted_listing (bearer_wanted project key) (bearer_row key) IsTheirs bearer_back bearer_gives bearer_cmp bearer_in_cmp bearer_same (IsBearerRow elements) (IsBearerOf elements project key) (λ b p so. (so, p)) (λ b s. (s.1, s.0)) rows l
+      wanted_are (bearer_wanted project key) (bearer_row key) IsTheirs bearer_back bearer_gives (IsBearerRow elements) (IsBearerOf elements project key) (λ b p so. (so, p)) (λ b s. (s.1, s.0)) rows l.each
 
 -- ---- ranges
 

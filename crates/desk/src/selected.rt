@@ -5,11 +5,11 @@ ghost use Rattle.std.specs.BTreeMap.{IsOrdered};
 ghost use Rattle.std.specs.String.{string_cmp};
 ghost use Rattle.std.specs.List.{filter_map};
 ghost use Rattle.std.specs.List.Sorted.{IsStrictlySortedBy};
-ghost use Rattle.dump.specs.Places.{IsListing, place_cmp};
 ghost use Rattle.flatten.specs.Rows.{range_value};
-ghost use Rattle.machine.specs.Selections.{FindsCover, bearer_found, bearer_found_cmp, item_found, mark_found, mark_text_cmp, range_found};
+ghost use Rattle.machine.specs.Selections.{FindsCover, bearer_found, item_found, mark_found, range_found};
 ghost use Rattle.machine.specs.Steps.Covers.{inner_order};
-ghost use Rattle.desk.specs.Steps.Selected.{IsBearerAmong, IsBearerOf, IsItemOf, IsMarkOf, IsHoverOf, bearer_in_cmp, by_span, range_found_of, range_wanted};
+ghost use Rattle.desk.specs.Steps.Rows.{AreThose};
+ghost use Rattle.desk.specs.Steps.Selected.{IsBearerAmong, IsBearerOf, IsItemOf, IsMarkOf, IsHoverOf, by_span, range_found_of, range_wanted};
 
 use crate::project::Project;
 use dump::{CheckedDump, Role, nesting_law, uri_law};
@@ -22,14 +22,14 @@ use std::cmp::Ordering;
 use std::collections::BTreeMap;
 use std::rc::RcStr;
 
-/// The places that the result of this number has in a role, each once.
+/// The places that the result of this number has in a role.
 pub(crate) fn items_of(
     alloc: Global,
     dump: &CheckedDump,
     result_number: u32,
     role: Role,
 ) -> Result<Vec<FoundItem>, FlattenFault>
-    ensures { IfOk result (λ found. IsListing place_cmp (IsItemOf dump.now.elements result_number role) (map item_found found.items)) }
+    ensures { IfOk result (λ found. AreThose (IsItemOf dump.now.elements result_number role) (map item_found found.items)) }
 {
     let rows = flatten(alloc, dump)?.items;
     let mut found = Vec::new(alloc);
@@ -45,13 +45,13 @@ pub(crate) fn items_of(
     Ok(found)
 }
 
-/// The marks of the range at this line, each once.
+/// The marks of the range at this line.
 pub(crate) fn marks_of(
     alloc: Global,
     dump: &CheckedDump,
     line: u32,
 ) -> Result<Vec<FoundMark>, FlattenFault>
-    ensures { IfOk result (λ found. IsListing mark_text_cmp (IsMarkOf dump.now.elements line) (map mark_found found.items)) }
+    ensures { IfOk result (λ found. AreThose (IsMarkOf dump.now.elements line) (map mark_found found.items)) }
 {
     let rows = flatten(alloc, dump)?.marks;
     let mut found = Vec::new(alloc);
@@ -84,14 +84,14 @@ pub(crate) fn hover_of(
     Ok(None)
 }
 
-/// The bearers of the key in the dump of this project, by line, then by kind, each once.
+/// The bearers of the key in the dump of this project.
 pub(crate) fn bearers_of(
     alloc: Global,
     dump: &CheckedDump,
     project: &str,
     key: &str,
 ) -> Result<Vec<FoundBearer>, FlattenFault>
-    ensures { IfOk result (λ found. IsListing bearer_in_cmp (IsBearerOf dump.now.elements project.now key.now) (map bearer_found found.items)) }
+    ensures { IfOk result (λ found. AreThose (IsBearerOf dump.now.elements project.now key.now) (map bearer_found found.items)) }
 {
     let rows = flatten(alloc, dump)?.bearers;
     let mut found = Vec::new(alloc);
@@ -181,13 +181,13 @@ pub(crate) fn covering_of(
     Ok(found)
 }
 
-/// The bearers of the key in the dumps of all projects, by project, line and kind, each once.
+/// The bearers of the key in the dumps of all projects.
 pub(crate) fn bearers_in(
     alloc: Global,
     projects: &BTreeMap<String, Project>,
     key: &str,
 ) -> Result<Vec<FoundBearer>, FlattenFault>
-    ensures found { IfOk result (λ found. IsListing bearer_found_cmp (IsBearerAmong key.now projects.now.entries) (map bearer_found found.items)) }
+    ensures found { IfOk result (λ found. AreThose (IsBearerAmong key.now projects.now.entries) (map bearer_found found.items)) }
     ensures ordered { IsOrdered string_cmp projects.now }
 {
     let mut found = Vec::new(alloc);

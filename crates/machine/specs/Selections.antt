@@ -1,7 +1,5 @@
 -- What the selections of an index find, from a state of the machine.
-use Rattle.std.specs.Prelude.{◌≡◌, ℕ, List, map, Option, Some, None, string_bytes}
-use Rattle.std.specs.declared.cmp.Ordering.{Ordering}
-use Rattle.std.specs.Ordering.{nat_cmp, ordering_then}
+use Rattle.std.specs.Prelude.{◌≡◌, ◌↔◌, ℕ, List, Contains, map, Option, Some, None, string_bytes}
 use Rattle.std.specs.List.{AllZip}
 use Rattle.std.specs.Rc.{rc_str_bytes}
 use Rattle.lsif.specs.declared.element.MonikerKind.{MonikerKind}
@@ -10,13 +8,13 @@ use Rattle.positions.specs.Span.{SpanValue}
 use Rattle.lsif.specs.Element.{ElementValue}
 use Rattle.lsif.specs.declared.request_kind.RequestKind.{RequestKind}
 use Rattle.dump.specs.declared.role.Role.{Role}
-use Rattle.dump.specs.Places.{PlaceValue, HasDocument, IsListing, place_cmp}
+use Rattle.dump.specs.Places.{PlaceValue, HasDocument, IsListing}
 use Rattle.dump.specs.Progress.{DumpValue}
 use Rattle.dump.specs.Requests.{Cover, RangeValue}
 use Rattle.flatten.specs.Rows.{results_value}
-use Rattle.flatten.specs.Flat.{ResultsValue, BearerRowValue, IsBearerRow, IsHoverRow, IsItemRow, IsMarkRow, IsResult, kind_index, number_of}
+use Rattle.flatten.specs.Flat.{ResultsValue, BearerRowValue, IsBearerRow, IsHoverRow, IsItemRow, IsMarkRow, IsResult, number_of}
 use Rattle.machine.specs.FoundTags.{BeginsWith, FoundTag, IsTag, line_cmp, name_cmp}
-use Rattle.machine.specs.Projects.{IsProject, ProjectValue, project_cmp, text_cmp}
+use Rattle.machine.specs.Projects.{IsProject, ProjectValue, project_cmp}
 use Rattle.machine.specs.State.{State}
 use Rattle.machine.specs.declared.selections.FoundBearer.{FoundBearer}
 use Rattle.machine.specs.declared.selections.Covering.{Covering}
@@ -58,13 +56,9 @@ abbrev pub HasMark : State → List ℕ → ℕ → MarkText → Type 0
 HasMark m project line mark =
     (dump : DumpValue) × (m.dump project ≡ Some dump) × IsMarkRow dump.elements (record { range = line; kind = mark.kind; key = mark.key })
 
--- by kind, then by key
-abbrev pub mark_text_cmp : MarkText → MarkText → Ordering
-mark_text_cmp a b = ordering_then (nat_cmp (kind_index a.kind) (kind_index b.kind)) (text_cmp a.key b.key)
-
--- the marks of the range, each once
+-- the marks of the range, and no other
 abbrev pub FindsMarks : State → List ℕ → ℕ → List MarkText → Type 0
-FindsMarks m project line = IsListing mark_text_cmp (HasMark m project line)
+FindsMarks m project line found = (mark : MarkText) → Contains found mark ↔ HasMark m project line mark
 
 -- ---- items
 
@@ -76,9 +70,9 @@ abbrev pub HasItem : State → List ℕ → ℕ → Role → PlaceValue → Type
 HasItem m project result role place =
     (dump : DumpValue) × (m.dump project ≡ Some dump) × IsItemRow dump.elements (record { result = result; role = role; place = place })
 
--- the places of the result in the role, each once
+-- the places of the result in the role, and no other
 abbrev pub FindsItems : State → List ℕ → ℕ → Role → List PlaceValue → Type 0
-FindsItems m project result role = IsListing place_cmp (HasItem m project result role)
+FindsItems m project result role found = (place : PlaceValue) → Contains found place ↔ HasItem m project result role place
 
 -- ---- covering
 
@@ -138,13 +132,9 @@ bearer_row key b = record { line = b.line; key = key; kind = b.kind; results = b
 abbrev pub Bears : State → List ℕ → BearerFound → Type 0
 Bears m key b = (dump : DumpValue) × (m.dump b.project ≡ Some dump) × IsBearerRow dump.elements (bearer_row key b)
 
--- by project, then by line, then by kind
-abbrev pub bearer_found_cmp : BearerFound → BearerFound → Ordering
-bearer_found_cmp a b = ordering_then (text_cmp a.project b.project) (ordering_then (nat_cmp a.line b.line) (nat_cmp (kind_index a.kind) (kind_index b.kind)))
-
--- the bearers of the key in all projects, each once
+-- the bearers of the key in all projects, and no other
 abbrev pub FindsBearers : State → List ℕ → List BearerFound → Type 0
-FindsBearers m key = IsListing bearer_found_cmp (Bears m key)
+FindsBearers m key found = (b : BearerFound) → Contains found b ↔ Bears m key b
 
 -- ---- tags
 

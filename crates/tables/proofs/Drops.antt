@@ -151,9 +151,6 @@ module _ (name : List ℕ) (is_added : Has added_names name) (d : DropsIndex nam
   abbrev sql : List ℕ
   sql = drop_text name ++ semicolon
 
-  has_name : Index → Bool
-  has_name i = same_name i.name name
-
   by : (o : Option ℕ) → among name more ≡ o → Leaves
   by None e =
       let w = runs_as sql [] old new (with_indexes more) kept.schema_is Nothing (d.read more None e).0 (d.read more None e).1 count (from_batch sql [] old new (with_indexes more) count kept.schema_is (d.read more None e).2 h) in (

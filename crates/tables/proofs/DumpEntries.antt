@@ -2,7 +2,6 @@
 use Rattle.std.proofs.Common.{◌≡◌, inl, inr, ℕ, ℤ, List, [], ◌∷◌, map, Option, Some, None, refl, sym, ap, subst, ◌∙◌}
 use Rattle.std.specs.Prelude.{◌↔◌, Contains}
 use Rattle.std.specs.List.{AllByRecursion}
-use Rattle.std.specs.List.Sorted.{IsStrictlySortedBy}
 use Rattle.sqlite_value.specs.Order.{Row}
 use Rattle.sqlite_value.specs.declared.value.Value.{Value}
 use Rattle.sqlite_value.specs.declared.value.Value.TheVariants.{Int}
@@ -52,9 +51,8 @@ listed_are P columns xs it row = (
   (λ h. subst (Has (map columns xs)) (sym h.2) (to_map columns xs h.0 (has_contained xs h.0 ((it.each h.0).1 h.1)))),
 )
 
-pub empty_listing : {V : Type 0} (cmp : V → V → Ordering) (P : V → Type 0) → ((v : V) → P v → ⊥) → IsListing cmp P []
-unfolding IsStrictlySortedBy
-empty_listing cmp P none = record { rises = tt; each = λ v. ((λ at. absurd (has_contained [] v at)), (λ p. absurd (none v p))) }
+pub none_are : {V : Type 0} (P : V → Type 0) → ((v : V) → P v → ⊥) → (v : V) → Contains [] v ↔ P v
+none_are P none v = ((λ at. absurd (has_contained [] v at)), (λ p. absurd (none v p)))
 
 -- The values that are read from a selection are those of the entries: for each value `entry` is the
 -- one that it shows.
@@ -88,9 +86,6 @@ module _ (db : Trees) (m : State) (s : StandsFor db m) where
 
   pub rows_of_tags : (project : List ℕ) (tags : List TagValue) → m.tags project ≡ Some tags → (rows : ℕ → List Row) × (s.parts project Tags ≡ Some rows) × AreTags tags rows
   rows_of_tags project tags = some_each AreTags (m.tags project) (s.parts project Tags) tags (s.tags project)
-
-  pub no_tags : (project : List ℕ) → s.parts project Tags ≡ None → m.tags project ≡ None
-  no_tags project = none_each AreTags (m.tags project) (s.parts project Tags) (s.tags project)
 
   -- the slot of a project's dump
   pub dump_slot : (project : List ℕ) (id : ℤ) → Has (db slot_tree) (slot_row id project Dump) → (dump : DumpValue) × (m.dump project ≡ Some dump)

@@ -1,5 +1,5 @@
 -- The bearers of a key, as they are selected.
-use Rattle.std.proofs.Common.{◌≡◌, ◌⊎◌, inl, inr, ℕ, ℤ, true, List, [], ◌∷◌, ◌++◌, ◌+◌, None, length, map, refl, sym, ap, subst, ◌∙◌, ◌↔◌, Contains, Equal, string_bytes}
+use Rattle.std.proofs.Common.{◌≡◌, ◌⊎◌, inl, inr, ℕ, ℤ, true, List, [], ◌∷◌, ◌++◌, ◌+◌, None, length, map, refl, sym, ap, subst, ◌∙◌, ◌↔◌, Contains, string_bytes}
 use Rattle.std.specs.List.{list_all, range_with_len}
 use Rattle.sqlite.specs.State.{State as Store, Shown}
 use Rattle.sqlite_value.specs.Order.{Row, column}
@@ -13,10 +13,7 @@ use Rattle.sqlite_rules.proofs.ListLemmas.{has_contained, contains_had, has_filt
 use Rattle.flatten.specs.Rows.{results_value}
 use Rattle.lsif.specs.RequestKinds.{kinds}
 use Rattle.lsif.proofs.RequestKinds.{listed}
-use Rattle.dump.specs.Places.{IsListing}
-use Rattle.dump.proofs.Listing.{same_listing}
 use Rattle.tables.specs.declared.slots.Part.TheVariants.{Dump}
-use Rattle.tables.proofs.BearerOrder.{tied_bearers}
 use Rattle.dump.specs.Progress.{DumpValue}
 use Rattle.flatten.specs.Flat.{RowsValue, IsFlat, BearerRowValue, IsBearerRow, kind_index}
 use Rattle.tables.specs.Schema.{schema_two}
@@ -25,7 +22,7 @@ use Rattle.tables.specs.Kinds.{own_kinds, more_kinds}
 use Rattle.tables.specs.Contents.{owned, slot_row}
 use Rattle.machine.specs.State.{State}
 use Rattle.tables.specs.Stands.{StandsFor}
-use Rattle.machine.specs.Selections.{BearerFound, Bears, FindsBearers, bearer_found, bearer_row, bearer_found_cmp}
+use Rattle.machine.specs.Selections.{BearerFound, Bears, bearer_found, bearer_row}
 use Rattle.machine.specs.declared.selections.FoundBearer.{FoundBearer}
 use Rattle.tables.specs.declared.bearers.TheConstants.{SELECT_BEARERS_OF_KEY}
 use Rattle.tables.specs.Steps.Selected.{AreRead}
@@ -36,7 +33,7 @@ use Rattle.tables.proofs.Equalities.{same_if, if_same}
 use Rattle.tables.proofs.FoundMarks.{one_kind}
 use Rattle.tables.proofs.FoundSlots.{one_slot}
 use Rattle.tables.proofs.Joined.{joined, of_line, of_slot, of_key, mores, slots, shows, each_joins, all_joins, answer_of}
-use Rattle.tables.proofs.Keeping.{same_some, from_map, to_map, both}
+use Rattle.tables.proofs.Keeping.{from_map, to_map, both}
 use Rattle.tables.proofs.LineResults.{one_kinds, kinds_columns, of_kind, one_known, nothing, says_none, are as more_are, is_owned as more_owned}
 use Rattle.tables.proofs.Reading.{rows_are}
 
@@ -212,16 +209,3 @@ last_or [] x y (inl e) = inr e
 last_or [] x y (inr h) = absurd h
 last_or (z ∷ xs) x y (inl e) = inl (inl e)
 last_or (z ∷ xs) x y (inr h) = elim (last_or xs x y h) [ inl a ↦ inl (inr a) | inr e ↦ inr e ]
-
--- two bearers of a key in one place of the order are one
-one_bearer : (m : State) (key : List ℕ) (v w : BearerFound) → Bears m key v → Bears m key w → bearer_found_cmp v w ≡ Equal → v ≡ w
-one_bearer m key v w a b e =
-    let same = tied_bearers v w e in
-    let dump : b.0 ≡ a.0 = same_some (sym b.1 ∙ (ap m.dump (sym same.0) ∙ a.1)) in
-    let second = subst (λ (d : DumpValue). IsBearer d (bearer_row key w)) dump b.2 in
-    let results = one_known a.0 w.line v.results w.results (inr (bearer_row key v, a.2, same.1.0, refl)) (inr (bearer_row key w, second, refl, refl)) in
-    λ i. record { project = same.0 i; line = same.1.0 i; kind = same.1.1 i; results = results i }
-
-pub bearers_are : (m : State) (key : List ℕ) (found listed : List BearerFound) → ((v : BearerFound) → Contains found v ↔ Bears m key v)
-    → (((v w : BearerFound) → Contains found v → Contains found w → bearer_found_cmp v w ≡ Equal → v ≡ w) → IsListing bearer_found_cmp (Contains found) listed) → FindsBearers m key listed
-bearers_are m key found listed are_all list = same_listing bearer_found_cmp _ _ listed are_all (list (λ v w p q e. one_bearer m key v w ((are_all v).0 p) ((are_all w).0 q) e))

@@ -1,11 +1,7 @@
 -- The items of a result, as they are selected.
-use Rattle.std.proofs.Common.{◌≡◌, inl, inr, ℕ, ℤ, Bool, true, ◌&&◌, List, [], ◌∷◌, map, Some, None, codes, refl, sym, ap, subst, ◌∙◌, ◌↔◌, Contains, arith}
+use Rattle.std.proofs.Common.{◌≡◌, inl, inr, ℕ, ℤ, List, [], ◌∷◌, map, Some, None, codes, refl, sym, ap, subst, ◌∙◌, ◌↔◌, Contains, arith}
 use Rattle.std.specs.List.{AllByRecursion}
-use Rattle.std.specs.Cmp.{IsTotalOrder, on_total}
-use Rattle.std.specs.Cmp.Lexicographic.{pointwise}
-use Rattle.std.specs.Prelude.{nat_eq}
 use Rattle.std.specs.Rc.{rc_str_bytes}
-use Rattle.std.specs.Ordering.{eq_by_cmp}
 use Rattle.sqlite.specs.Listing.{understood}
 use Rattle.sqlite.specs.State.{State as Store, Shown}
 use Rattle.sqlite_tied.specs.Compute.{everything}
@@ -20,12 +16,9 @@ use Rattle.lsif.specs.Element.{IdValue, range}
 use Rattle.dump.specs.Graph.{vertex_at}
 use Rattle.dump.specs.declared.role.Role.{Role}
 use Rattle.dump.specs.declared.role.Role.TheVariants.{Definitions, References}
-use Rattle.dump.specs.Places.{PlaceValue, IsListing, place_cmp}
-use Rattle.dump.proofs.OnePicks.{place_total}
+use Rattle.dump.specs.Places.{PlaceValue}
 use Rattle.dump.specs.Progress.{DumpValue}
 use Rattle.flatten.specs.Flat.{RowsValue, IsFlat, ItemRowValue, IsItemRow, role_index}
-use Rattle.dump.proofs.Listing.{under, same_listing}
-use Rattle.flatten.proofs.RowOrders.{same_span, place_ties, place_same}
 use Rattle.tables.specs.declared.slots.Part.TheVariants.{Dump}
 use Rattle.tables.specs.Schema.{schema_two}
 use Rattle.tables.specs.Columns.{number, dump_rows, position, item_columns}
@@ -38,7 +31,7 @@ use Rattle.tables.specs.declared.items.TheConstants.{SELECT_ITEMS}
 use Rattle.tables.specs.Steps.Selected.{AreRead, equals}
 use Rattle.tables.specs.Steps.DumpEntries.{Entries, entry_values, SelectsOf}
 use Rattle.tables.specs.TableTrees.{slot_tree}
-use Rattle.tables.proofs.DumpEntries.{rows_of, typed, selects_of, listed_are, dump_slot, are_values, empty_listing}
+use Rattle.tables.proofs.DumpEntries.{rows_of, typed, selects_of, listed_are, dump_slot, are_values, none_are}
 use Rattle.tables.proofs.Keeping.{same_some, none_is_some}
 use Rattle.tables.proofs.Select.{IsSelect, one_table}
 use Rattle.tables.proofs.Selecting.{IsSelection, selects_typed}
@@ -47,19 +40,7 @@ pub select_items_is : IsSelect schema_two SELECT_ITEMS.now (one_table 9 (equals 
 unfolding understood everything
 select_items_is = record { is = refl; plain = (refl, refl); unlisted = refl; silent = λ schema base. refl }
 
--- ---- the order
-
-abbrev pub same_item : FoundItem → FoundItem → Bool
-same_item a b = pointwise nat_eq (rc_str_bytes a.uri) (rc_str_bytes b.uri) && same_span a.span b.span
-
-pub item_total : IsTotalOrder (under item_found place_cmp)
-item_total = on_total item_found place_total
-
-pub item_tie : (x y : FoundItem) → same_item x y ≡ eq_by_cmp (under item_found place_cmp) x y
-item_tie x y = place_ties (item_found x) (item_found y)
-
-pub item_one : (x y : FoundItem) → same_item x y ≡ true → item_found x ≡ item_found y
-item_one x y e = place_same (item_found x) (item_found y) e
+-- ---- roles and positions
 
 one_role : (j k : Role) → number (role_index j) ≡ number (role_index k) → j ≡ k
 one_role Definitions Definitions e = refl
@@ -153,16 +134,16 @@ module _ (result : ℕ) (role : Role) where
         (λ h. it.1 (subst (λ (d : DumpValue). IsItem d (entry v)) (same_some (sym h.1 ∙ has)) h.2)),
       )
 
-  pub items_found : (m : State) (id : ℤ) (project : List ℕ) (old new : Store) (rows : List Row) (found listed : List FoundItem) → StandsFor old.now.trees m → old.now.schema ≡ schema_two → Has (old.now.trees slot_tree) (slot_row id project Dump)
-      → Shown SELECT_ITEMS.now (Int id ∷ number result ∷ number (role_index role) ∷ []) old new rows → AreRead found_columns rows found → AllByRecursion IsSound found → IsListing place_cmp (Contains (map item_found found)) (map item_found listed) → FindsItems m project result role (map item_found listed)
+  pub items_found : (m : State) (id : ℤ) (project : List ℕ) (old new : Store) (rows : List Row) (found : List FoundItem) → StandsFor old.now.trees m → old.now.schema ≡ schema_two → Has (old.now.trees slot_tree) (slot_row id project Dump)
+      → Shown SELECT_ITEMS.now (Int id ∷ number result ∷ number (role_index role) ∷ []) old new rows → AreRead found_columns rows found → AllByRecursion IsSound found → FindsItems m project result role (map item_found found)
   unfolding selection
-  items_found m id project old new rows found listed s schema slot shown read sound list =
+  items_found m id project old new rows found s schema slot shown read sound =
       let db = old.now.trees in
       let dump = dump_slot db m s project id slot in
       let numbered : HasPositions m = (λ project dump r span has at. (rows_of db m s project dump has).2.located r span at) in
-      same_listing place_cmp _ _ (map item_found listed) (finds m project dump.0 numbered dump.1 found sound (selects_of db m s IsItem item_columns 9 is_owned are (λ tags. refl) project dump.0 id slot dump.1 IsOf item_shown (map found_columns found)
+      finds m project dump.0 numbered dump.1 found sound (selects_of db m s IsItem item_columns 9 is_owned are (λ tags. refl) project dump.0 id slot dump.1 IsOf item_shown (map found_columns found)
       (selects_typed (entry_values item_columns IsItem db m) (λ at e. item_shown e.0.value) (IsWanted db m id) found_columns SELECT_ITEMS.now (Int id ∷ number result ∷ number (role_index role) ∷ []) 9 (selection db m id) (λ x. refl) old new rows schema
-      (typed db m s IsItem item_columns 9 is_owned are (λ tags. refl)) shown found read))) list
+      (typed db m s IsItem item_columns 9 is_owned are (λ tags. refl)) shown found read))
 
 pub no_items : (m : State) (project : List ℕ) (result : ℕ) (role : Role) → m.dump project ≡ None → FindsItems m project result role []
-no_items m project result role none = empty_listing place_cmp (HasItem m project result role) (λ v h. absurd (none_is_some (sym none ∙ h.1)))
+no_items m project result role none = none_are (HasItem m project result role) (λ v h. absurd (none_is_some (sym none ∙ h.1)))

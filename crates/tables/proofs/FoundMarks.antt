@@ -1,10 +1,6 @@
 -- The marks of a range, as they are selected.
-use Rattle.std.proofs.Common.{◌≡◌, inl, inr, ℕ, ℤ, Bool, true, ◌&&◌, List, [], ◌∷◌, map, Some, None, codes, refl, sym, ap, subst, ◌∙◌, string_bytes, ◌↔◌, Contains}
+use Rattle.std.proofs.Common.{◌≡◌, inl, inr, ℕ, ℤ, List, [], ◌∷◌, map, Some, None, codes, refl, sym, ap, subst, ◌∙◌, string_bytes, ◌↔◌, Contains}
 use Rattle.std.specs.List.{AllByRecursion}
-use Rattle.std.specs.Cmp.{IsTotalOrder, then_total, on_total, nat_cmp_total}
-use Rattle.std.specs.Cmp.Lexicographic.{on_texts}
-use Rattle.std.specs.String.{string_eq}
-use Rattle.std.specs.Ordering.{eq_by_cmp}
 use Rattle.sqlite.specs.Listing.{understood}
 use Rattle.sqlite.specs.State.{State as Store, Shown}
 use Rattle.sqlite_tied.specs.Compute.{everything}
@@ -13,27 +9,23 @@ use Rattle.sqlite_value.specs.declared.value.Value.TheVariants.{Int, Text}
 use Rattle.sqlite_sql.specs.Term.{col}
 use Rattle.sqlite_trees.specs.Tree.{Trees}
 use Rattle.sqlite_rules.specs.Lists.{Has}
-use Rattle.lsif.specs.contracts.element.MonikerKindPartialEq.TheImpl as kind_eq
 use Rattle.lsif.specs.declared.element.MonikerKind.{MonikerKind}
 use Rattle.lsif.specs.declared.element.MonikerKind.TheVariants.{Import, Export, Local}
-use Rattle.dump.specs.Places.{IsListing}
 use Rattle.dump.specs.Progress.{DumpValue}
 use Rattle.flatten.specs.Flat.{RowsValue, IsFlat, MarkRowValue, IsMarkRow, kind_index}
-use Rattle.dump.proofs.Listing.{under, same_listing}
-use Rattle.flatten.proofs.RowOrders.{parts_tie, parts_same}
 use Rattle.tables.specs.declared.slots.Part.TheVariants.{Dump}
 use Rattle.tables.specs.Schema.{schema_two}
 use Rattle.tables.specs.Columns.{number, dump_rows, mark_columns}
 use Rattle.tables.specs.Contents.{owned, slot_row}
 use Rattle.machine.specs.State.{State}
 use Rattle.tables.specs.Stands.{StandsFor}
-use Rattle.machine.specs.Selections.{MarkText, HasMark, FindsMarks, mark_text_cmp, mark_found}
+use Rattle.machine.specs.Selections.{MarkText, HasMark, FindsMarks, mark_found}
 use Rattle.machine.specs.declared.selections.FoundMark.{FoundMark}
 use Rattle.tables.specs.declared.marks.TheConstants.{SELECT_MARKS}
 use Rattle.tables.specs.Steps.Selected.{AreRead, equals}
 use Rattle.tables.specs.Steps.DumpEntries.{Entries, entry_values, SelectsOf}
 use Rattle.tables.specs.TableTrees.{slot_tree}
-use Rattle.tables.proofs.DumpEntries.{typed, selects_of, listed_are, dump_slot, are_values, empty_listing}
+use Rattle.tables.proofs.DumpEntries.{typed, selects_of, listed_are, dump_slot, are_values, none_are}
 use Rattle.tables.proofs.Keeping.{same_some, none_is_some}
 use Rattle.tables.proofs.Select.{IsSelect, one_table}
 use Rattle.tables.proofs.Selecting.{IsSelection, selects_typed}
@@ -41,20 +33,6 @@ use Rattle.tables.proofs.Selecting.{IsSelection, selects_typed}
 pub select_marks_is : IsSelect schema_two SELECT_MARKS.now (one_table 13 (equals ((1, 0) ∷ (2, 1) ∷ [])) (col 1 3 ∷ col 1 4 ∷ [])) (codes "kind" ∷ codes "keytext" ∷ [])
 unfolding understood everything
 select_marks_is = record { is = refl; plain = (refl, refl); unlisted = refl; silent = λ schema base. refl }
-
--- ---- the order
-
-abbrev pub same_mark : FoundMark → FoundMark → Bool
-same_mark a b = kind_eq.ghosts.eq a.kind b.kind && string_eq a.key b.key
-
-pub mark_total : IsTotalOrder (under mark_found mark_text_cmp)
-mark_total = then_total (on_total (λ (r : FoundMark). kind_index r.kind) nat_cmp_total) (on_texts (λ (r : FoundMark). string_bytes r.key))
-
-pub mark_tie : (x y : FoundMark) → same_mark x y ≡ eq_by_cmp (under mark_found mark_text_cmp) x y
-mark_tie x y = parts_tie 0 0 x.kind y.kind (string_bytes x.key) (string_bytes y.key)
-
-pub mark_one : (x y : FoundMark) → same_mark x y ≡ true → mark_found x ≡ mark_found y
-mark_one x y e = ap (λ (v : MarkRowValue). record { kind = v.kind; key = v.key }) (parts_same 0 0 x.kind y.kind (string_bytes x.key) (string_bytes y.key) e)
 
 pub one_kind : (j k : MonikerKind) → number (kind_index j) ≡ number (kind_index k) → j ≡ k
 one_kind Import Import e = refl
@@ -128,15 +106,15 @@ module _ (line : ℕ) where
         (λ h. it.1 (subst (λ (d : DumpValue). IsMark d (entry v)) (same_some (sym h.1 ∙ has)) h.2)),
       )
 
-  pub marks_found : (m : State) (id : ℤ) (project : List ℕ) (old new : Store) (rows : List Row) (found listed : List FoundMark) → StandsFor old.now.trees m → old.now.schema ≡ schema_two → Has (old.now.trees slot_tree) (slot_row id project Dump)
-      → Shown SELECT_MARKS.now (Int id ∷ number line ∷ []) old new rows → AreRead found_columns rows found → AllByRecursion (λ (x : FoundMark). Unit {0}) found → IsListing mark_text_cmp (Contains (map mark_found found)) (map mark_found listed) → FindsMarks m project line (map mark_found listed)
+  pub marks_found : (m : State) (id : ℤ) (project : List ℕ) (old new : Store) (rows : List Row) (found : List FoundMark) → StandsFor old.now.trees m → old.now.schema ≡ schema_two → Has (old.now.trees slot_tree) (slot_row id project Dump)
+      → Shown SELECT_MARKS.now (Int id ∷ number line ∷ []) old new rows → AreRead found_columns rows found → AllByRecursion (λ (x : FoundMark). Unit {0}) found → FindsMarks m project line (map mark_found found)
   unfolding selection
-  marks_found m id project old new rows found listed s schema slot shown read sound list =
+  marks_found m id project old new rows found s schema slot shown read sound =
       let db = old.now.trees in
       let dump = dump_slot db m s project id slot in
-      same_listing mark_text_cmp _ _ (map mark_found listed) (finds m project dump.0 dump.1 found sound (selects_of db m s IsMark mark_columns 13 is_owned are (λ tags. refl) project dump.0 id slot dump.1 IsAtLine mark_shown (map found_columns found)
+      finds m project dump.0 dump.1 found sound (selects_of db m s IsMark mark_columns 13 is_owned are (λ tags. refl) project dump.0 id slot dump.1 IsAtLine mark_shown (map found_columns found)
       (selects_typed (entry_values mark_columns IsMark db m) (λ at e. mark_shown e.0.value) (IsWanted db m id) found_columns SELECT_MARKS.now (Int id ∷ number line ∷ []) 13 (selection db m id) (λ x. refl) old new rows schema
-      (typed db m s IsMark mark_columns 13 is_owned are (λ tags. refl)) shown found read))) list
+      (typed db m s IsMark mark_columns 13 is_owned are (λ tags. refl)) shown found read))
 
 pub no_marks : (m : State) (project : List ℕ) (line : ℕ) → m.dump project ≡ None → FindsMarks m project line []
-no_marks m project line none = empty_listing mark_text_cmp (HasMark m project line) (λ v h. absurd (none_is_some (sym none ∙ h.1)))
+no_marks m project line none = none_are (HasMark m project line) (λ v h. absurd (none_is_some (sym none ∙ h.1)))

@@ -1,6 +1,5 @@
 pub mod Asking
 pub mod Batches
-pub mod BearerOrder
 pub mod Cascade
 pub mod Climbing
 pub mod Commands

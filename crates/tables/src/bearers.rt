@@ -1,12 +1,9 @@
-//! The bearers of a moniker key in all projects, as they are selected, in order: by one join of
-//! `bearer`, `slot` and `more`, over the index of keys. `FindsBearers` in
-//! `machine/specs/Selections`.
-ghost use Rattle.std.specs.Prelude.{◌≡◌, ◌↔◌, ◌∷◌, List, ℕ, Contains, map, string_bytes, IfOk, OnOk};
-ghost use Rattle.std.specs.declared.cmp.Ordering.TheVariants.{Equal};
+//! The bearers of a moniker key in all projects, as they are selected by one join of `bearer`,
+//! `slot` and `more`, over the index of keys. `FindsBearers` in `machine/specs/Selections`.
+ghost use Rattle.std.specs.Prelude.{◌≡◌, ◌∷◌, List, ℕ, map, string_bytes, IfOk, OnOk};
 ghost use Rattle.sqlite_value.specs.declared.value.Value.TheVariants.{Text};
 ghost use Rattle.sqlite.specs.State.{HasCleanDisk};
 ghost use Rattle.sqlite.specs.Held.{state};
-ghost use Rattle.dump.specs.Places.{IsListing};
 ghost use Rattle.lsif.specs.RequestKinds.{kinds};
 ghost use Rattle.flatten.specs.Flat.{kind_index};
 ghost use Rattle.flatten.specs.Rows.{results_value};
@@ -15,13 +12,12 @@ ghost use Rattle.tables.specs.Columns.{kind_columns, number};
 ghost use Rattle.tables.specs.Contents.{Contents, HasSlot, Replies, Keeps};
 ghost use Rattle.machine.specs.State.{State};
 ghost use Rattle.tables.specs.Stands.{OnlySelects, Rests};
-ghost use Rattle.machine.specs.Selections.{BearerFound, Bears, FindsBearers, bearer_found, bearer_found_cmp};
+ghost use Rattle.machine.specs.Selections.{FindsBearers, bearer_found};
 ghost use Rattle.tables.specs.Steps.Slots.{IsNamed};
 ghost use Rattle.tables.specs.Steps.Clauses.{OfState, OnlyReads};
 ghost use Rattle.tables.specs.declared.slots.Part.{Part};
 
 use crate::columns::{column, kind_of};
-use crate::dump_rows::kind_number;
 use crate::fault::{Refusal, TablesFault};
 use crate::kinds::{naming_more, read_all};
 use crate::parts::ProjectSlot;
@@ -30,7 +26,6 @@ use crate::tables::Tables;
 use machine::FoundBearer;
 use sqlite::{Alter, Connection, Row, params};
 use std::alloc::Global;
-use std::cmp::Ordering;
 
 impl Listed for FoundBearer {
     ghost columns = { λ b. Text (string_bytes b.project) ∷ number b.line ∷ number (kind_index b.kind)
@@ -95,58 +90,21 @@ fn select_bearers<S: Alter>(
     conn: &mut Connection<S>,
     key: &str,
 ) -> Result<Vec<FoundBearer>, Refusal>
-    ensures found { OfState S.Store conn.old conn.new (λ m. IfOk result
-        (λ found. (v : BearerFound) → Contains (map bearer_found found.items) v ↔ Bears m key.now v)) }
+    ensures found { OfState S.Store conn.old conn.new (λ m. IfOk result (λ found. FindsBearers m key.now (map bearer_found found.items))) }
     ensures reads { OnlyReads S.Store result conn.old conn.new }
 {
     select_all(alloc, conn, SELECT_BEARERS_OF_KEY, params![key])
 }
 
-/// By project, then by line, then by kind.
-fn order(a: &FoundBearer, b: &FoundBearer) -> Ordering
-    ensures { result ≡ bearer_found_cmp (bearer_found a.now) (bearer_found b.now) }
-{
-    let kinds = kind_number(a.kind).cmp(&kind_number(b.kind));
-    a.project
-        .as_str()
-        .cmp(b.project.as_str())
-        .then(a.line.cmp(&b.line).then(kinds))
-}
-
-/// Puts the bearers in order, each once, where those of one place in the order are one.
-fn list_bearers(found: &mut Vec<FoundBearer>)
-    ensures { ((v w : BearerFound) → Contains (map bearer_found found.old.items) v → Contains (map bearer_found found.old.items) w
-        → bearer_found_cmp v w ≡ Equal → v ≡ w)
-        → IsListing bearer_found_cmp (Contains (map bearer_found found.old.items)) (map bearer_found found.new.items) }
-{
-    found.sort_unstable_by(|a, b| order(a, b));
-    found.dedup_by(|a, b| order(a, b) == Ordering::Equal);
-}
-
-/// The bearers of a key, in all projects.
-fn find_bearers<S: Alter>(
-    alloc: Global,
-    conn: &mut Connection<S>,
-    key: &str,
-) -> Result<Vec<FoundBearer>, Refusal>
-    ensures found { OfState S.Store conn.old conn.new (λ m. IfOk result (λ found. FindsBearers m key.now (map bearer_found found.items))) }
-    ensures reads { OnlyReads S.Store result conn.old conn.new }
-{
-    let mut found = select_bearers(alloc, conn, key)?;
-    list_bearers(&mut found);
-    Ok(found)
-}
-
 impl<S: Alter> Tables<S> {
-    /// The bearers of a key in the dumps of all projects: each once, by project (its bytes), line
-    /// and kind. The key is as `flatten::key_text` makes it. Errors: `Refused` and `Memory`
-    /// (`TablesFault`).
+    /// The bearers of a key in the dumps of all projects, in any order. The key is as
+    /// `flatten::key_text` makes it. Errors: `Refused` and `Memory` (`TablesFault`).
     pub fn bearers(&mut self, alloc: Global, key: &str) -> Result<Vec<FoundBearer>, TablesFault>
         ensures found { HasCleanDisk (state S.Store self.new) → (m : State) → Rests (state S.Store self.old) m
             → IfOk result (λ found. FindsBearers m key.now (map bearer_found found.items)) }
         ensures selects { OnlySelects result (state S.Store self.old) (state S.Store self.new) }
     {
-        match find_bearers(alloc, &mut self.conn, key) {
+        match select_bearers(alloc, &mut self.conn, key) {
             Ok(found) => Ok(found),
             Err(refusal) => {
                 self.slot = None;

@@ -1,12 +1,11 @@
 //! The items of results, as they are selected by the key of their table: the places of a result in
-//! a role, then sorted. `FindsItems` in `machine/specs/Selections`.
-ghost use Rattle.std.specs.Prelude.{◌≡◌, ◌∷◌, [], List, ℕ, Contains, map, IfOk, OnOk};
+//! a role. `FindsItems` in `machine/specs/Selections`.
+ghost use Rattle.std.specs.Prelude.{◌≡◌, ◌∷◌, [], List, ℕ, map, IfOk, OnOk};
 ghost use Rattle.std.specs.Rc.{rc_str_bytes};
 ghost use Rattle.sqlite_value.specs.declared.value.Value.TheVariants.{Text};
 ghost use Rattle.sqlite.specs.State.{HasCleanDisk};
 ghost use Rattle.sqlite.specs.Held.{state};
 ghost use Rattle.positions.specs.Position.{IsPosition};
-ghost use Rattle.dump.specs.Places.{IsListing, place_cmp};
 ghost use Rattle.tables.specs.Columns.{position, IsWritten};
 ghost use Rattle.tables.specs.Contents.{HasSlot};
 ghost use Rattle.machine.specs.State.{State};
@@ -53,14 +52,6 @@ impl Listed for FoundItem {
     }
 }
 
-/// Puts the items in order, each once.
-fn list_items(found: &mut Vec<FoundItem>)
-    ensures { IsListing place_cmp (Contains (map item_found found.old.items)) (map item_found found.new.items) }
-{
-    found.sort_unstable();
-    found.dedup();
-}
-
 const SELECT_ITEMS: &str =
     "SELECT uri, first, last FROM item WHERE slot = ?1 AND result = ?2 AND role = ?3";
 
@@ -77,14 +68,12 @@ fn items_in<S: Alter>(
     ensures reads { OnlyReads S.Store result conn.old conn.new }
 {
     let role = role_number(role);
-    let mut found = select_all(
+    select_all(
         alloc,
         conn,
         SELECT_ITEMS,
         params![slot, result_number, role],
-    )?;
-    list_items(&mut found);
-    Ok(found)
+    )
 }
 
 /// The items that a result has in a role, in a project's dump.
@@ -109,9 +98,9 @@ fn find_items<S: Alter>(
 }
 
 impl<S: Alter> Tables<S> {
-    /// The places that a result of the project's dump has in a role, by the result's number: each
-    /// once, by uri, start and end, and none where the dump has no such result or the project no
-    /// dump. Errors: `Refused` and `Memory` (`TablesFault`).
+    /// The places that a result of the project's dump has in a role, by the result's number, in any
+    /// order: none where the dump has no such result or the project no dump. Errors: `Refused` and
+    /// `Memory` (`TablesFault`).
     pub fn items(
         &mut self,
         alloc: Global,

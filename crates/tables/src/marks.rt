@@ -1,22 +1,19 @@
-//! The marks of a range, as they are selected, by kind and key. `FindsMarks` in
-//! `machine/specs/Selections`.
-ghost use Rattle.std.specs.Prelude.{◌≡◌, ◌∷◌, [], List, ℕ, Contains, map, string_bytes, IfOk, OnOk};
+//! The marks of a range, as they are selected. `FindsMarks` in `machine/specs/Selections`.
+ghost use Rattle.std.specs.Prelude.{◌≡◌, ◌∷◌, [], List, ℕ, map, string_bytes, IfOk, OnOk};
 ghost use Rattle.sqlite_value.specs.declared.value.Value.TheVariants.{Text};
 ghost use Rattle.sqlite.specs.State.{HasCleanDisk};
 ghost use Rattle.sqlite.specs.Held.{state};
-ghost use Rattle.dump.specs.Places.{IsListing};
 ghost use Rattle.flatten.specs.Flat.{kind_index};
 ghost use Rattle.tables.specs.Columns.{number};
 ghost use Rattle.tables.specs.Contents.{HasSlot};
 ghost use Rattle.machine.specs.State.{State};
 ghost use Rattle.tables.specs.Stands.{OnlySelects, Rests};
-ghost use Rattle.machine.specs.Selections.{FindsMarks, mark_text_cmp, mark_found};
+ghost use Rattle.machine.specs.Selections.{FindsMarks, mark_found};
 ghost use Rattle.tables.specs.Steps.Slots.{IsKnown};
 ghost use Rattle.tables.specs.declared.slots.Part.TheVariants.{Dump};
 ghost use Rattle.tables.specs.Steps.Clauses.{OfState, OnlyReads};
 
 use crate::columns::{column, kind_of};
-use crate::dump_rows::kind_number;
 use crate::fault::{Refusal, TablesFault};
 use crate::parts::{ProjectSlot, dump_slot};
 use crate::selection::{Listed, select_all};
@@ -24,7 +21,6 @@ use crate::tables::Tables;
 use machine::FoundMark;
 use sqlite::{Alter, Connection, Row, params};
 use std::alloc::Global;
-use std::cmp::Ordering;
 
 impl Listed for FoundMark {
     ghost columns = { λ mark. number (kind_index mark.kind) ∷ Text (string_bytes mark.key) ∷ [] };
@@ -36,23 +32,6 @@ impl Listed for FoundMark {
             key: column(row, 1)?,
         })
     }
-}
-
-/// By kind, then by key.
-fn order(a: &FoundMark, b: &FoundMark) -> Ordering
-    ensures { result ≡ mark_text_cmp (mark_found a.now) (mark_found b.now) }
-{
-    kind_number(a.kind)
-        .cmp(&kind_number(b.kind))
-        .then(a.key.as_str().cmp(b.key.as_str()))
-}
-
-/// Puts the marks in order, each once.
-fn list_marks(found: &mut Vec<FoundMark>)
-    ensures { IsListing mark_text_cmp (Contains (map mark_found found.old.items)) (map mark_found found.new.items) }
-{
-    found.sort_unstable_by(|a, b| order(a, b));
-    found.dedup();
 }
 
 const SELECT_MARKS: &str = "SELECT kind, keytext FROM mark WHERE slot = ?1 AND line = ?2";
@@ -68,9 +47,7 @@ fn marks_in<S: Alter>(
         → HasSlot (state S.Store conn.old).now.trees slot project Dump → IfOk result (λ found. FindsMarks m project line (map mark_found found.items))) }
     ensures reads { OnlyReads S.Store result conn.old conn.new }
 {
-    let mut found = select_all(alloc, conn, SELECT_MARKS, params![slot, line])?;
-    list_marks(&mut found);
-    Ok(found)
+    select_all(alloc, conn, SELECT_MARKS, params![slot, line])
 }
 
 /// The marks of a range of a project's dump.
@@ -93,9 +70,8 @@ fn find_marks<S: Alter>(
 }
 
 impl<S: Alter> Tables<S> {
-    /// The marks of the range at this line of the project's dump, counted from 1: each once, by
-    /// kind and key, and none where there is no such range. Errors: `Refused` and `Memory`
-    /// (`TablesFault`).
+    /// The marks of the range at this line of the project's dump, counted from 1, in any order:
+    /// none where there is no such range. Errors: `Refused` and `Memory` (`TablesFault`).
     pub fn marks(
         &mut self,
         alloc: Global,

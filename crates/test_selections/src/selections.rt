@@ -16,9 +16,9 @@ const PARTS: &str =
     INSERT INTO part_profile (slot, profile) VALUES (3, 2), (4, 1);\
     INSERT INTO keyed (project, cmdkey, reply) VALUES ('old', 'd1', '{\"removed\":true}');\
     INSERT INTO hover (slot, result, contents) VALUES (3, 7, '[1]'), (4, 7, '[2]');\
-    INSERT INTO mark (slot, line, kind, keytext) VALUES (3, 5, 1, 'f'), (3, 5, 0, 'g'), (3, 5, 0, 'f'), (4, 5, 1, 'h');\
-    INSERT INTO item (slot, result, role, uri, first, last) VALUES (3, 9, 0, 'a:b', 4294967296, 4294967299), (3, 9, 0, 'a:b', 5, 8), (3, 9, 1, 'a:b', 0, 3);\
-    INSERT INTO bearer (slot, line, keytext, kind, def, refs, hover) VALUES (4, 11, 'f', 1, 9, NULL, 7), (3, 13, 'f', 0, NULL, NULL, NULL), (3, 12, 'f', 0, 2, 3, NULL), (3, 12, 'g', 0, 2, 3, NULL);\
+    INSERT INTO mark (slot, line, kind, keytext) VALUES (3, 5, 0, 'f'), (3, 5, 0, 'g'), (3, 5, 1, 'f'), (4, 5, 1, 'h');\
+    INSERT INTO item (slot, result, role, uri, first, last) VALUES (3, 9, 0, 'a:b', 5, 8), (3, 9, 0, 'a:b', 4294967296, 4294967299), (3, 9, 1, 'a:b', 0, 3);\
+    INSERT INTO bearer (slot, line, keytext, kind, def, refs, hover) VALUES (3, 12, 'f', 0, 2, 3, NULL), (3, 12, 'g', 0, 2, 3, NULL), (3, 13, 'f', 0, NULL, NULL, NULL), (4, 11, 'f', 1, 9, NULL, 7);\
     INSERT INTO more (slot, line, decl, imp) VALUES (3, 12, NULL, 4), (4, 11, 8, NULL)";
 
 /// A call of the tables.

@@ -1,22 +1,18 @@
 -- What selections in memory find in the rows of a dump.
-use Rattle.std.specs.Prelude.{◌≡◌, ◌&&◌, ◌==◌, ◌++◌, ℕ, List, Option, Some, None, String, Contains, bytes_eq, string_bytes, if◌then◌else◌}
-use Rattle.std.specs.List.Sorted.{IsStrictlySortedBy}
-use Rattle.std.specs.Map.{keys_of}
-use Rattle.std.specs.String.{string_cmp}
+use Rattle.std.specs.Prelude.{◌≡◌, ◌⊎◌, ◌↔◌, ◌&&◌, ◌==◌, ℕ, List, Option, Some, None, String, Contains, bytes_eq, string_bytes, if◌then◌else◌}
 use Rattle.std.specs.declared.cmp.Ordering.{Ordering}
-use Rattle.std.specs.Ordering.{nat_cmp, ordering_then}
 use Rattle.positions.specs.Position.{PositionValue}
 use Rattle.positions.specs.Span.{covers}
 use Rattle.lsif.specs.Element.{ElementValue}
 use Rattle.lsif.specs.declared.request_kind.RequestKind.{RequestKind}
 use Rattle.dump.specs.contracts.role.RolePartialEq.TheImpl as role_eq
 use Rattle.dump.specs.declared.role.Role.{Role}
-use Rattle.dump.specs.Places.{IsListing, PlaceValue}
+use Rattle.dump.specs.Places.{PlaceValue}
 use Rattle.dump.specs.Progress.{DumpValue}
-use Rattle.flatten.specs.Flat.{RangeRowValue, ItemRowValue, HoverRowValue, MarkRowValue, BearerRowValue, kind_index, IsItemRow, IsHoverRow, IsMarkRow, IsBearerRow}
+use Rattle.flatten.specs.Flat.{RangeRowValue, ItemRowValue, HoverRowValue, MarkRowValue, BearerRowValue, IsItemRow, IsHoverRow, IsMarkRow, IsBearerRow}
 use Rattle.flatten.specs.Rows.{range_value}
 use Rattle.flatten.specs.declared.rows.RangeRow.{RangeRow}
-use Rattle.machine.specs.Selections.{MarkText, RangeFound, BearerFound, bearer_found_cmp, bearer_row}
+use Rattle.machine.specs.Selections.{MarkText, RangeFound, BearerFound, bearer_row}
 use Rattle.tables.specs.Steps.Climbs.{row_found}
 use Rattle.desk.specs.declared.project.Project.{Project}
 use Rattle.machine.specs.Steps.Covers.{inner_order}
@@ -64,10 +60,6 @@ abbrev pub bearer_wanted : List ℕ → List ℕ → BearerRowValue → Option B
 bearer_wanted project key row =
     if bytes_eq row.key key then Some (record { project = project; line = row.line; kind = row.kind; results = row.results }) else None
 
--- those of one project: by line, then by kind
-abbrev pub bearer_in_cmp : BearerFound → BearerFound → Ordering
-bearer_in_cmp a b = ordering_then (nat_cmp a.line b.line) (nat_cmp (kind_index a.kind) (kind_index b.kind))
-
 -- a bearer of the key in the project's dump
 abbrev pub IsBearerOf : List ElementValue → List ℕ → List ℕ → BearerFound → Type 0
 IsBearerOf elements project key b = (b.project ≡ project) × IsBearerRow elements (bearer_row key b)
@@ -93,13 +85,6 @@ IsBearerHere key name kept b = (dump : DumpValue) × (kept ≡ Some dump) × IsB
 abbrev pub IsBearerAmong : {Y : Type 0} → List ℕ → List (String Y × Project) → BearerFound → Type 0
 IsBearerAmong {Y} key entries b = (e : String Y × Project) × Contains entries e × IsBearerHere key (string_bytes e.0) e.1.dump b
 
--- those of one project were added
-abbrev pub AddsBearers : List ℕ → List ℕ → Option DumpValue → List BearerFound → List BearerFound → Type 0
-AddsBearers key name kept old new = (more : List BearerFound) × (new ≡ old ++ more) × IsListing bearer_in_cmp (IsBearerHere key name kept) more
-
--- those of the projects before the rest were found: with a listing of those of the rest they're a
--- listing of those of all
-pub record FoundSoFar {Y : Type 0} (key : List ℕ) (all rest : List (String Y × Project)) (found : List BearerFound) : Type 0 where
-  pub up : IsStrictlySortedBy string_cmp (keys_of rest)
-  pub listed : (more : List BearerFound) → IsListing bearer_found_cmp (IsBearerAmong key rest) more
-      → IsListing bearer_found_cmp (IsBearerAmong key all) (found ++ more)
+-- those of the projects before the rest were found: with those of the rest they're those of all
+abbrev pub FoundSoFar : {Y : Type 0} → List ℕ → List (String Y × Project) → List (String Y × Project) → List BearerFound → Type 0
+FoundSoFar key all rest found = (b : BearerFound) → (Contains found b ⊎ IsBearerAmong key rest b) ↔ IsBearerAmong key all b

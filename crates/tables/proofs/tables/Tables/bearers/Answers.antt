@@ -12,5 +12,5 @@ returns-in-Ok-clause-found g c clean m is =
 pub invariant_of-self : goal.invariant_of-self
 invariant_of-self g c =
     let old = state g.S.Store c.self.inside.conn in
-    let new = state g.S.Store c.find_bearers.new.conn in
-    (c.find_bearers.ensures.reads.mode c.self.invariant.0, known_on old new c.self.inside.slot (survives_clean old new c.find_bearers.ensures.reads.looks) c.in-Ok.ensures.reads.kept c.self.invariant.1)
+    let new = state g.S.Store c.select_bearers.new.conn in
+    (c.select_bearers.ensures.reads.mode c.self.invariant.0, known_on old new c.self.inside.slot (survives_clean old new c.select_bearers.ensures.reads.looks) c.in-Ok.ensures.reads.kept c.self.invariant.1)
