@@ -8,10 +8,14 @@ import subprocess
 import sys
 import tempfile
 from contextlib import redirect_stderr, redirect_stdout
+from typing import Any
 from unittest import mock
 
 from codenav.cli import ask
 from codenav.cli.ask import ASK
+from codenav.cli.browse import BROWSE
+from codenav.cli.command import Command
+from codenav.cli.lsp import LSP
 from codenav.cli.prepare import PREPARE
 from codenav.cli.upload import UPLOAD
 from codenav.client.fetch import fetch_from
@@ -154,7 +158,7 @@ class Asking(OnServer):
         code, said, _ = self.asked("--json", *words, "names", "is_warm")
         [tag] = json.loads(said)["tags"]
         start, end = ({"line": 16, "character": character} for character in (7, 14))
-        today = {"path": file, "uri": places.uri_of(file, []), "start": start, "end": end}
+        today = {"path": file, "uri": uri, "start": start, "end": end}
         [found] = fetch("/names", {"name": "is_warm", "project": "app"}, "tags")
         self.assertEqual((code, tag), (0, {**found, **today}))
         self.assertEqual(self.asked("--json", *words, "names", "none")[:2], (1, '{"tags":[]}\n'))
@@ -167,6 +171,20 @@ class Asking(OnServer):
             lines = ask.place_lines(found, False)
         self.assertEqual(lines, [places.place_line(place, False) for place in found])
         self.assertEqual(read.call_count, 1)
+
+    def test_records(self) -> None:
+        """The record of a call has what its parser may set."""
+        words: list[Command[Any]] = [ASK, BROWSE, LSP]
+        for word in words:
+            todo = [word.parser()]
+            for parser in todo:
+                for action in parser._actions:
+                    if isinstance(action.choices, dict):
+                        todo += action.choices.values()
+                    with self.subTest(word.word, option=action.dest):
+                        self.assertTrue(
+                            action.dest == "help" or hasattr(word.record(), action.dest)
+                        )
 
     def test_what_is_loaded(self) -> None:
         """Modules that take long to load, as long as a question or more, aren't."""

@@ -184,6 +184,17 @@ class SplitIndex(unittest.TestCase):
                 self.assertEqual(len(flat.start), 100 * (documents + 1))
         self.assertLess(peaks[1], 2 * peaks[0])
 
+    def test_said_once(self) -> None:
+        """Flaws are said once, however often the index is read since documents are left out."""
+        out = os.path.join(self.folder, "out")
+        large = [occurrence([line, 0, 5], APP + "b#") for line in range(100)]
+        small = [occurrence([0, 5], APP + "a#"), occurrence([0, 0, 5], APP + "a#", DEFINITION)]
+        self.put(metadata() + document("a.ts", *small) + document("b.ts", *large))
+        lines = split_index(self.index, out, "code", elements=60, is_lenient=True).lines()
+        flaws = [line for line in lines if "occurrence without a range: 1," in line]
+        left_out = [line for line in lines if line.startswith("left out: file:")]
+        self.assertEqual((len(flaws), len(left_out)), (1, 1), lines)
+
     def test_refused(self) -> None:
         """A flaw is named; what is no index is refused."""
         out = os.path.join(self.folder, "out")

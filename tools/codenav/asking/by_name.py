@@ -15,7 +15,7 @@ from codenav.asking.index import Index
 from codenav.asking.tags import Names, Tag
 from codenav.faults import NO_DUMP, NoReply
 from codenav.texts.decoded import lines_in
-from codenav.texts.places import Place, units, uri_of
+from codenav.texts.places import Maps, Place, units, uri_of
 from codenav.texts.tagged import is_part
 
 if TYPE_CHECKING:
@@ -91,15 +91,15 @@ class ByName:
         tags = self.project.index.names({"name": name}, False)
         names = Names()
         places = names.places(self.project, tags, lambda _: self.folder)
-        found = sorted((found_at(*one) for one in places), key=far)
+        found = sorted((found_at(*one, today.maps) for one in places), key=far)
         if said := names.said():
             today.say(said)
         self.is_tagged = self.is_tagged or bool(found)
         return found
 
 
-def found_at(tag: Tag, place: Place) -> dict[str, Any]:
+def found_at(tag: Tag, place: Place, maps: Maps) -> dict[str, Any]:
     """The place of a tag's name, as the places of an answer are."""
     end = place._replace(character=place.character + units(tag["name"]))
-    own = {"project": tag["project"], "path": place.name, "uri": uri_of(place.name, [])}
+    own = {"project": tag["project"], "path": place.name, "uri": uri_of(place.name, maps)}
     return {**own, "start": place.position(), "end": end.position()}

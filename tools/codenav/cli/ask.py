@@ -16,9 +16,9 @@ from codenav.cli.show import Shown
 from codenav.client.fetch import fetch_from
 from codenav.client.http import SECONDS
 from codenav.faults import NoReply
+from codenav.kinds import hover_text
 from codenav.settings.found import FILE, Settings, settings_by
 from codenav.texts.decoded import counts_bytes, lines_of
-from codenav.texts.hovers import hover_text
 from codenav.texts.places import Maps, Place, asked_path, character_at, path_of, place_line, uri_of
 from codenav.texts.today import NotThere, Today, is_whole_file, position_of
 
@@ -105,7 +105,7 @@ def answer_names(call: AskCall, settings: Settings) -> Answer:
         warn(said)
     lines = place_lines([place for _, place in named], call.utf16)
     return Answer(
-        {"tags": [{**tag, **found_at(tag, place)} for tag, place in named]},
+        {"tags": [{**tag, **found_at(tag, place, settings.maps)} for tag, place in named]},
         [f"{line}: {tag['name']}" for (tag, _), line in zip(named, lines)],
     )
 

@@ -31,6 +31,22 @@ KNOWN = "\n".join(
     + (f"   where there is {' or '.join(one.marks)}" if one.marks else "")
     for one in INDEXERS
 )
+VALUES = {
+    "--program PATH": "the program, which checks before the upload; without it CODENAV_PROGRAM, that of this clone or package, or the one on the path",
+    "--servers URL,URL..": "all servers of a front that spreads projects, spelled as in its configuration: the set goes to the one that the front picks, and its "
+    f"surface to the others; without it `servers` of FOLDER's {FILE}. URL is the front then, or one of them",
+    "--revision REV": "the git revision that is indexed; without it the one that FOLDER has checked out, where no file that git has is changed",
+    "--keep FOLDER": "keep the files that are made, in FOLDER, which with several servers is one for each set: `codenav rebalance` puts them",
+}
+FLAGS = {
+    "--no-tags": "upload the dump alone",
+    "--set": "make a set of parts, as is done by itself of a dump that is too large for one project",
+    "--servers-that-join": "the surface goes to those of the servers alone that have a set which imports or exports something of one of its packages",
+    "--dry-run": "make and check all, and upload nothing",
+    "--write-settings": f"write FOLDER's {FILE} with what is published, unless it has other settings",
+    "--overwrite": "with --write-settings, other settings too",
+    "--json": "print what was done as JSON",
+}
 
 
 @dataclass(slots=True)
@@ -63,53 +79,15 @@ def add_publish(parser: argparse.ArgumentParser) -> None:
         metavar="GLOB",
         help="leave out the documents whose path from the project's root on is like GLOB, as of prepare",
     )
-    parser.add_argument("--no-tags", action="store_true", help="upload the dump alone")
     parser.add_argument(
         "--profile",
         choices=["1", "2"],
         help="how the dump is read; 2 has declarations and implementations too, and is taken without it where the dump has such",
     )
-    for option, metavar, text in (
-        (
-            "--program",
-            "PATH",
-            "the program, which checks before the upload; without it CODENAV_PROGRAM, that of this clone or package, or the one on the path",
-        ),
-        (
-            "--servers",
-            "URL,URL..",
-            "all servers of a front that spreads projects, spelled as in its configuration: the set goes to the one that the front picks, and its "
-            f"surface to the others; without it `servers` of FOLDER's {FILE}. URL is the front then, or one of them",
-        ),
-        (
-            "--revision",
-            "REV",
-            "the git revision that is indexed; without it the one that FOLDER has checked out, where no file that git has is changed",
-        ),
-        (
-            "--keep",
-            "FOLDER",
-            "keep the files that are made, in FOLDER, which with several servers is one for each set: `codenav rebalance` puts them",
-        ),
-    ):
-        parser.add_argument(option, metavar=metavar, help=text)
-    for option, text in (
-        (
-            "--set",
-            "make a set of parts, as is done by itself of a dump that is too large for one project",
-        ),
-        (
-            "--servers-that-join",
-            "the surface goes to those of the servers alone that have a set which imports or exports something of one of its packages",
-        ),
-        ("--dry-run", "make and check all, and upload nothing"),
-        (
-            "--write-settings",
-            f"write FOLDER's {FILE} with what is published, unless it has other settings",
-        ),
-        ("--overwrite", "with --write-settings, other settings too"),
-        ("--json", "print what was done as JSON"),
-    ):
+    for option, text in VALUES.items():
+        name, metavar = option.split()
+        parser.add_argument(name, metavar=metavar, help=text)
+    for option, text in FLAGS.items():
         parser.add_argument(option, action="store_true", help=text)
     add_words(
         parser,

@@ -18,6 +18,13 @@ from codenav.sets.ring import named_in_front, servers_of
 TOOL = "codenav rebalance"
 
 
+VALUES = {
+    "--servers URL,URL..": "all servers that the front is to ask, spelled as in its configuration; without it `servers` of the settings of the folder of the call",
+    "--servers-before URL,URL..": "the list of before, where a server that can be asked leaves it",
+    "--switch COMMAND": "the line of a shell that switches the front; without it switch the front, and call again",
+}
+
+
 @dataclass(slots=True)
 class RebalanceCall:
     """What `rebalance` is told."""
@@ -32,24 +39,9 @@ class RebalanceCall:
 
 def add_rebalance(parser: argparse.ArgumentParser) -> None:
     """The words of `rebalance`."""
-    for option, metavar, text in (
-        (
-            "--servers",
-            "URL,URL..",
-            "all servers that the front is to ask, spelled as in its configuration; without it `servers` of the settings of the folder of the call",
-        ),
-        (
-            "--servers-before",
-            "URL,URL..",
-            "the list of before, where a server that can be asked leaves it",
-        ),
-        (
-            "--switch",
-            "COMMAND",
-            "the line of a shell that switches the front; without it switch the front, and call again",
-        ),
-    ):
-        parser.add_argument(option, metavar=metavar, help=text)
+    for option, text in VALUES.items():
+        name, metavar = option.split()
+        parser.add_argument(name, metavar=metavar, help=text)
     parser.add_argument(
         "--servers-that-join",
         action="store_true",

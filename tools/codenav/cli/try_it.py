@@ -9,6 +9,7 @@ from dataclasses import dataclass
 
 from codenav.cli.command import Command
 from codenav.faults import Failed
+from codenav.program import REQUESTS as MOST
 from codenav.program import TOP, Program, build
 
 DUMP, TAGS = "demo/crate.raw.lsif", "demo/crate.tags"
@@ -63,7 +64,6 @@ def steps(url: str, dump: str) -> list[Step]:
     at_definition, uses = ":".join(AT_DEFINITION), ":".join(DEFINITION[1:])
 
     def asked(words: list[str], output: str) -> Step:
-        # with the revision, which the dump doesn't keep
         return Step([*ask, *words], f"{NOT_MAPPED}\n{output}")
 
     return [
@@ -116,7 +116,7 @@ def trial(program: Program, folder: str) -> int:
     if status != 0:
         raise Failed(f"prepare ended with status {status}")
     with program.serve() as server:
-        print(f"$ {shlex.join(map(str, server.process.args))} &")  # type: ignore[arg-type]
+        print(f"$ {program.path} serve :memory: --port {server.port} --requests {MOST} &")
         todo = steps(server.url, dump)
         for step in todo:
             if run(step.words) != (step.output, step.status):

@@ -225,19 +225,14 @@ def head_of(tags: Iterable[Tag], project: str) -> Optional[Head]:
             for tag in found
             if tag["name"] == f"{ABOUT}list"
         ]
-        head = Head(
-            name,
-            fields.get("revision", ""),
-            fields.get("folder", ""),
-            int(fields["documents"]),
-            fields.get("tool", ""),
-            fields.get("mark", ""),
-            fields.get("profile", "1"),
-            parts,
-            tuple(sorted(lists, key=lambda one: one.first.encode())),
-            surface,
-            tuple(sorted(map(package_of, filter(is_package, found)))),
+        lists.sort(key=lambda one: one.first.encode())
+        packages = sorted(map(package_of, filter(is_package, found)))
+        revision, folder, tool, mark = (
+            fields.get(key, "") for key in ("revision", "folder", "tool", "mark")
         )
+        count, profile = int(fields["documents"]), fields.get("profile", "1")
+        about_it = name, revision, folder, count, tool, mark, profile
+        head = Head(*about_it, parts, tuple(lists), surface, tuple(packages))
     except (KeyError, IndexError, TypeError, ValueError):
         raise NotAManifest(
             f"{project} isn't the manifest of a set: somebody else wrote it"

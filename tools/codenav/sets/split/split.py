@@ -71,17 +71,21 @@ class SetFiles(NamedTuple):
     tags_left_out: int
     reading: Outcome
 
+    def said(self) -> str:
+        """Its counts, as a sentence."""
+        counts = [part.elements for part in self.head.parts]
+        return (
+            f"elements {self.elements} -> {sum(counts)} in {len(counts)} parts of at most {max(counts)}; "
+            f"documents {self.head.documents}; keys hidden {self.hidden} of {self.keys}"
+        )
+
     def lines(self) -> list[str]:
         """What is said of it."""
-        counts = [part.elements for part in self.head.parts]
         lines = self.reading.lines()
         lines += [f"left out: {uri}, {count} elements" for uri, count in self.left_out]
         if self.tags_left_out:
             lines.append(f"tags left out: {self.tags_left_out}, which are too many for their parts")
-        lines.append(
-            f"elements {self.elements} -> {sum(counts)} in {len(counts)} parts of at most {max(counts)}; "
-            f"documents {self.head.documents}; keys hidden {self.hidden} of {self.keys}"
-        )
+        lines.append(self.said())
         if self.cut_short:
             lines.append(f"referenceResults too deep: {self.cut_short} results have not all places")
         return lines
@@ -212,37 +216,34 @@ def split_given(given: Given, options: SplitOptions, folder: str, shows: Shows) 
     old = os.path.join(folder, MANIFEST)
     before = [part.first for part in read_head(old).parts] if os.path.exists(old) else None
     cut, elements, reading, left_out = plan_of(given, options, before)
-    maps = maps_of([*options.maps])
     firsts = [cut.flat.uris[first] for first in cut.cuts[:-1]]
     tags = CutTags([b""] * cut.parts)
     if options.tags:
-        tags = cut_tags(options.tags, options.tags_folder, maps, firsts)
+        tags = cut_tags(options.tags, options.tags_folder, maps_of([*options.maps]), firsts)
     os.makedirs(folder, exist_ok=True)
+    shows.begin("split", cut.parts, " parts")
     writer = Writer(cut, options.name, options.profile, given.hovers, folder, tags.bodies)
-    written = list(writer.write_all(options.jobs or len(os.sched_getaffinity(0))))
-    documents = documents_of(cut, written, maps)
+    written: list[Written] = []
+    for part in writer.write_all(options.jobs or len(os.sched_getaffinity(0))):
+        written.append(part)
+        shows.at(len(written))
+    head = put_head(cut, written, options, folder)
+    flat, hidden = cut.flat, len(cut.shared.hidden)
+    counts = elements, len(flat.keys), hidden, flat.cut_short
+    made = SetFiles(folder, head, *counts, tuple(left_out), tags.left_out, reading)
+    shows.end(made.said())
+    return made
+
+
+def put_head(cut: Cut, written: Sequence[Written], options: SplitOptions, folder: str) -> Head:
+    """Writes the manifest, and removes the parts of before; answers what it says."""
+    documents = documents_of(cut, written, maps_of([*options.maps]))
     parts = tuple(
-        PartEntry(part.project, part.elements, first) for part, first in zip(written, firsts)
+        PartEntry(part.project, part.elements, cut.flat.uris[first])
+        for part, first in zip(written, cut.cuts)
     )
-    head = Head(
-        options.name,
-        options.revision,
-        "; ".join(options.maps),
-        len(documents),
-        profile=options.profile,
-        parts=parts,
-    )
+    where, count = "; ".join(options.maps), len(documents)
+    head = Head(options.name, options.revision, where, count, profile=options.profile, parts=parts)
     head = put_manifest(folder, head, documents)
     drop_others(folder, head)
-    flat, hidden = cut.flat, len(cut.shared.hidden)
-    return SetFiles(
-        folder,
-        head,
-        elements,
-        len(flat.keys),
-        hidden,
-        flat.cut_short,
-        tuple(left_out),
-        tags.left_out,
-        reading,
-    )
+    return head

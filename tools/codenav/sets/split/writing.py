@@ -21,11 +21,10 @@ PARTS_EACH = 4
 
 @dataclass(frozen=True)
 class Written:
-    """A part that was written: its project, its elements and its bytes."""
+    """A part that was written: its project, and how many elements it has."""
 
     project: str
     elements: int
-    bytes: int
 
 
 @dataclass
@@ -53,7 +52,7 @@ class Writer:
             path = os.path.join(self.folder, f"{project}.{kind}")
             if content and not os.path.exists(path):
                 put_file(path, content)
-        return Written(project, lines.count, len(body))
+        return Written(project, lines.count)
 
     def write_all(self, processes: int) -> Iterator[Written]:
         """Writes all parts, in as many processes side by side, and answers them in order."""

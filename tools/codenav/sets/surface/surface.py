@@ -137,14 +137,14 @@ class Surface:
         self.lines.result_set(results, [self.monikers[own] for own in bearer.monikers])
 
 
-def write_surface(
-    path: str, profile: str, target: str, shows: Shows, name: str = ""
-) -> tuple[int, Surface]:
-    """Writes the surface of the prepared dump in a file into another; `name` is what faults call
-    it. Answers how many elements the dump has, and the surface. Raises NotADump."""
+def write_surface(path: str, profile: str, target: str, shows: Shows) -> tuple[int, Surface]:
+    """Writes the surface of the prepared dump in a file into another; answers how many elements the
+    dump has, and the surface. Raises NotADump."""
     with open(path, "rb") as source:
-        graph = read_graph(source, name or path, profile, shows)
+        graph = read_graph(source, path, profile, shows)
+        shows.begin("surface")
         with whole_file(target) as out:
             surface = Surface(graph, source, out)
             surface.write()
+        shows.end(f"elements {surface.lines.count}")
     return graph.elements, surface
