@@ -236,7 +236,7 @@ class Publish(OnCheckout):
         self.assertEqual(
             [one[name] for name in ("project", "part", "profile")], ["app", "lsif", "1"]
         )
-        self.assertEqual([*found["left out"][0]], ["what", "count", "why"])
+        self.assertEqual([*found["left_out"][0]], ["what", "count", "why"])
         found = json.loads(self.published("--set", *call)[1][0])
         counts = {"parts": 1, "kept": 0, "new": 1, "removed": 0}
         self.assertEqual((found["uploaded"], found["set"]), ([], counts))

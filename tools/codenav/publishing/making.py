@@ -102,7 +102,7 @@ class Making:
             self.outcome = files.reading if is_scip(dump) else self.outcome
         self.check(bodies)
         rows = (*rows_of(self.outcome, self.profile), *self.left_out)
-        return Made(tuple(bodies), files, self.where, self.commit, rows)
+        return Made(self.folder, tuple(bodies), files, self.where, self.commit, rows)
 
     def raw_dump(self, work: str) -> str:
         """The file with the dump or the index of the checkout, which was given or is written now;
