@@ -47,6 +47,7 @@ ELSEWHERE = {
 SESSIONS = {
     ("README.md", "docs/TOOLS.md"): ".",
     ("docs/API.md",): ".",
+    ("docs/SETS.md",): ".",
     ("docs/START.md",): "demo/crate",
 }
 NEEDED = {"rust-analyzer": "rust-web-analyzer", "ctags": "universal-ctags", "curl": "curl"}

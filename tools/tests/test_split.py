@@ -2,6 +2,7 @@
 
 import io
 import os
+import subprocess
 import tempfile
 import unittest
 from typing import Any
@@ -12,6 +13,7 @@ from codenav.sets import files, manifest
 from codenav.sets.split import chains, flattening, split
 from tests.dump_walks import body_of
 from tests.hostile_dumps import SHAPES
+from tests.servers import TOP, command
 from tests.split_files import said_of_split
 
 Element = dict[str, Any]
@@ -338,3 +340,20 @@ class Split(unittest.TestCase):
         with mock.patch("sys.stdout", io.StringIO()) as said:
             self.assertEqual(WHY.main([self.out, "src/b", "2", "1"]), 0)
         self.assertIn("scheme 'codenav-set'", said.getvalue())
+
+    def test_silent_processes(self) -> None:
+        """The processes that write end without a word."""
+        dump = os.path.join(TOP, "demo", "crate.raw.lsif")
+        options = ["--set", "--name", "crate", "--elements", "190", "--jobs", "2"]
+        for _ in range(5):
+            done = subprocess.run(
+                [*command("prepare"), *options, dump, self.out],
+                stdin=subprocess.DEVNULL,
+                capture_output=True,
+                text=True,
+                timeout=60,
+                check=False,
+            )
+            lines = done.stderr.splitlines()
+            self.assertEqual([one for one in lines if not one.startswith("codenav prepare: ")], [])
+            self.assertEqual(done.returncode, 0)

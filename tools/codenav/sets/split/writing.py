@@ -66,6 +66,9 @@ class Writer:
         count = min(processes, len(parts))
         with multiprocessing.get_context("fork").Pool(count, maxtasksperchild=PARTS_EACH) as pool:
             yield from pool.imap(write_part, parts)
+            # the processes end by themselves, not by a signal
+            pool.close()
+            pool.join()
 
 
 WRITER: Optional[Writer] = None
