@@ -4,11 +4,12 @@ server. So the tools write and ask for each in one: percent-encoded where it has
 hexadecimal digits in upper case, and with the letter of a drive in lower case.
 """
 
+import fnmatch
 import os
 import re
 import string
 from typing import Optional
-from urllib.parse import quote, unquote_to_bytes
+from urllib.parse import quote, unquote, unquote_to_bytes
 
 from codenav.urls import C0_OR_SPACE, UNSEEN, href
 
@@ -88,3 +89,9 @@ def root_of(given: str) -> str:
     """The address of a root that is given by that, or as a folder."""
     is_folder = not is_address(given) and address_of(given) is None
     return folder_address(os.path.abspath(given) if is_folder else given)
+
+
+def is_like(uri: str, root: str, glob: str) -> bool:
+    """Whether a document's address, or its path from the root on, is like a pattern."""
+    path = unquote(below(root, uri) or uri)
+    return any(fnmatch.fnmatchcase(text, glob) for text in (path, uri))

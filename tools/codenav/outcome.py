@@ -7,6 +7,7 @@ from typing import Mapping, NamedTuple
 
 MENDED, LEFT_OUT, READ, NO_EFFECT = "mended", "left out", "read", "no effect"
 ROWS, MERGED = "rows", "merged"
+LEFT_AS_ASKED = "document left out, as --without asks"
 
 
 @dataclass(frozen=True)
@@ -99,3 +100,8 @@ class Notes:
             for (kind, what), first in self.firsts.items()
             if kind == wanted
         )
+
+
+def unlike(name: str, glob: str) -> str:
+    """What's said of a dump that has no document to be left out by a pattern."""
+    return f"{name}: no document is like `{glob}`, which is to be left out"

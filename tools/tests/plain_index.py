@@ -34,10 +34,14 @@ FORMS = {
     "name": r"[^\0]+",
     "prefix": r"[^\0]+",
 }
-# the text and the status of each code, as the page has them
+# the text and the status of each code, as the pages have them; behind `:` or `;` more is said of it
 ROW = re.compile(r"^\| ([A-Z][0-9]{2}) \| (.+?) \|(?: ([0-9]{3}) \|)?$", re.M)
-with open(os.path.join(TOP, "docs", "inside", "DEFINITIONS.md"), encoding="utf-8") as page:
-    CODES = {code: (text, int(status or 422)) for code, text, status in ROW.findall(page.read())}
+CODES: dict[str, tuple[str, int]] = {}
+for page in "API.md", "inside/DEFINITIONS.md":
+    with open(os.path.join(TOP, "docs", page), encoding="utf-8") as file:
+        for code, text, status in ROW.findall(file.read()):
+            shown = re.split("[:;]", text)[0] if page == "API.md" else text
+            CODES[code] = (shown, int(status or 422))
 TABLES = """
 CREATE TABLE IF NOT EXISTS document (project, part, profile, body, PRIMARY KEY (project, part));
 CREATE TABLE IF NOT EXISTS kept (project, key, reply, PRIMARY KEY (project, key));

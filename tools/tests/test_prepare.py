@@ -94,6 +94,20 @@ class Prepare(unittest.TestCase):
         said = f"codenav prepare: {packed}: cut off, or not whole as it was packed\n"
         self.assertEqual(self.called(packed, self.out), (2, said))
 
+    def test_documents_that_are_left_out(self) -> None:
+        """By their paths or their addresses; a pattern that is like none is refused."""
+        needs("google.protobuf", "python3-protobuf")
+        for dump, more in ((RAW, list[str]()), (SCIP, OF_SCIP)):
+            for glob in ("src/l*.rs", "file:///*/src/lib.rs"):
+                status, said = self.called(*more, "--without", glob, dump, self.out)
+                self.assertEqual(status, 0, said)
+                self.assertIn("mended: document left out, as --without asks: 1, the first", said)
+            said = f"codenav prepare: {dump}: no document is like `x/*`, which is to be left out\n"
+            self.assertEqual(
+                self.called(*more, "--without", "src/*", "--without", "x/*", dump, self.out),
+                (2, said),
+            )
+
 
 if __name__ == "__main__":
     unittest.main()

@@ -24,6 +24,7 @@ from codenav.index.indexers import INDEXERS
 from codenav.outcome import LEFT_OUT, MENDED, NO_EFFECT, ROWS, Note, Outcome
 from codenav.publishing.made import Row, rows_of
 from codenav.records import Prepared
+from codenav.sets.files import MANIFEST, read_documents
 from codenav.sets.publish.publish import Publish as Made
 from codenav.sets.publish.store import Store
 from tests.repository import git_in
@@ -236,7 +237,7 @@ class Publish(OnCheckout):
         self.assertEqual(
             [one[name] for name in ("project", "part", "profile")], ["app", "lsif", "1"]
         )
-        self.assertEqual([*found["left out"][0]], ["what", "count", "why"])
+        self.assertEqual([*found["left_out"][0]], ["what", "count", "why"])
         found = json.loads(self.published("--set", *call)[1][0])
         counts = {"parts": 1, "kept": 0, "new": 1, "removed": 0}
         self.assertEqual((found["uploaded"], found["set"]), ([], counts))
@@ -405,7 +406,7 @@ class Publish(OnCheckout):
             (
                 ["--dump", SCIP, "--without", "x"],
                 2,
-                "--without is for dumps, and this is a SCIP index",
+                "no document is like `x`, which is to be left out",
             ),
             (["--dump", f"{raw}.text"], 2, "raw.text, line 1: not JSON"),
             (["--dump", f"{raw}.none"], 2, "raw.none: No such file or directory"),
@@ -483,6 +484,18 @@ class Publish(OnCheckout):
             found = self.places("file:///src/tr/crate/src/lib.rs", 17, 11)
             self.assertEqual(found, ["app file:///src/tr/crate/src/scale.rs 3"])
         self.assertEqual(os.listdir(kept), ["set"])
+
+    def test_without_documents(self) -> None:
+        """A document that is left out of an index is left out of a project and of a set alike."""
+        path = os.path.join(self.home, "kept", "set")
+        call = ["--no-tags", "--dump", SCIP, "--without", "*scale.rs", "--keep"]
+        self.assertEqual(self.published(*call, self.home + "/one", "app", self.checkout)[0], 0)
+        with open(os.path.join(self.home, "one", "dump.lsif"), encoding="utf-8") as dump:
+            self.assertNotIn("scale.rs", dump.read())
+        call += [os.path.dirname(path), "--set", "app", self.checkout]
+        self.assertEqual(self.published(*call)[0], 0)
+        documents = read_documents(os.path.join(path, MANIFEST), Made(Store(""), path).head)
+        self.assertEqual([one.uri.rsplit("/", 1)[1] for one in documents], ["lib.rs"])
 
     def test_what_cannot_be_carried_out(self) -> None:
         os.remove(os.path.join(self.bin, "rust-analyzer"))

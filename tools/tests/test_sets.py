@@ -304,8 +304,8 @@ FAULTS: dict[str, tuple[Any, str, Any]] = {
     "what no range has isn't shown": (Part, "found_by_mark", lambda part: None),
     "results that results lead to are left out": (
         flattening,
-        "reached_from",
-        lambda graph, result, most: ([], False, 0),
+        "reached",
+        lambda pairs, starts, most: (dict.fromkeys(starts), False, 0),
     ),
     "every moniker stands with the results": (Part, "is_shown", lambda part, firsts, mark: True),
 }

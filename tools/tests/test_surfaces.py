@@ -13,9 +13,11 @@ from typing import Any, Callable, Iterator
 from unittest import mock
 
 from codenav.cli.prepare import PREPARE
+from codenav.dumps.closure import reached
 from codenav.dumps.tables.graph import Graph
 from codenav.faults import NotADump
 from codenav.progress import Quiet
+from codenav.sets.split.lines import Lines
 from codenav.sets.surface import found, surface
 from codenav.sets.surface.surface import write_surface
 from tests.accepted import fault
@@ -241,9 +243,15 @@ class OfItself(unittest.TestCase):
         self.assertLess(lines, len(elements) + 10)
 
 
-def without_leads(graph: Graph, results: set[int]) -> set[int]:
-    """Results alone."""
-    return set(results)
+def without_leads(pairs: Any, starts: Any) -> tuple[dict[int, None], bool, int]:
+    """Results, which come as a set, alone."""
+    return REACHED({} if isinstance(starts, set) else pairs, starts)
+
+
+def without_attach(lines: Lines, label: str, source: int, target: int) -> None:
+    """Edges but those between monikers."""
+    if label != "attach":
+        EDGE(lines, label, source, target)
 
 
 def all_alike(graph: Graph) -> bytearray:
@@ -251,12 +259,12 @@ def all_alike(graph: Graph) -> bytearray:
     return bytearray(min(kind, found.EITHER) for kind in KINDS_OF(graph))
 
 
-KINDS_OF = found.kinds_of_monikers
+KINDS_OF, REACHED, EDGE = found.kinds_of_monikers, reached, Lines.edge
 FAULTS: dict[str, tuple[Any, str, Callable[..., Any]]] = {
-    "results that results lead to are left out": (surface, "led_to", without_leads),
+    "results that results lead to are left out": (surface, "reached", without_leads),
     "exports are found for references alone": (found, "kinds_of_monikers", all_alike),
     "what stands further along a chain isn't found": (found, "take_after", lambda *what: None),
-    "monikers aren't joined": (surface.Surface, "attached", lambda own, moniker: iter(())),
+    "monikers aren't joined": (Lines, "edge", without_attach),
     "vertices are in another order": (found, "line_order", lambda graph, vertex: (-vertex,)),
 }
 

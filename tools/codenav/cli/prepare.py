@@ -59,76 +59,41 @@ class PrepareCall:
         )
 
 
-def add_flags(parser: argparse.ArgumentParser) -> None:
-    """The options of `prepare` that have no value."""
-    for option, text in (
-        (
-            "--strip",
-            "drop all of LSIF that has no effect: elements of other labels, and the members `contents` and `tag`",
-        ),
-        (
-            "--keep-file-ranges",
-            "have ranges over whole files answer for each word that has nothing of its own",
-        ),
-        (
-            "--keep-unique",
-            "join projects by monikers of LSIF that are unique in a document, project, group or workspace alone: for projects of one workspace",
-        ),
-        (
-            "--lenient",
-            "end with 0 where something was left out for a flaw, and leave out of a set what can't be had: documents that are over the limits by "
-            "themselves, and places over too many referenceResults",
-        ),
-        (
-            "--report",
-            "say of LSIF how many rows the server makes of the dump, which ranges were merged and which labels have no effect",
-        ),
-    ):
-        parser.add_argument(option, action="store_true", help=text)
-
-
-def add_set(parser: argparse.ArgumentParser) -> None:
-    """The options of a set."""
-    group = parser.add_argument_group("of a set")
-    group.add_argument("--set", action="store_true", help="make a set of what isn't too large too")
-    for option, metavar, text in (
-        (
-            "--name",
-            "NAME",
-            "the set's name, of at most 47 characters of a-z 0-9 _ -; that of OUT without it",
-        ),
-        ("--revision", "REV", "the revision of the code, which the manifest keeps"),
-        ("--tags", "FILE", "a tags file, which is cut as the dump is"),
-        (
-            "--tags-folder",
-            "FOLDER",
-            "where the tags file was made, the folder of the call without it",
-        ),
-    ):
-        group.add_argument(option, metavar=metavar, help=text)
-    group.add_argument(
-        "--map",
-        action="append",
-        metavar="URI=FOLDER",
-        help="documents below URI are the files of FOLDER, whose digests the manifest keeps",
-    )
-    group.add_argument(
-        "--elements",
-        type=int,
-        metavar="N",
-        help="at most so many elements a part, 100000 without it",
-    )
-    group.add_argument(
-        "--jobs",
-        type=int,
-        metavar="N",
-        help="how many processes write, one for each processor that the call may use without it",
-    )
+FLAGS = {
+    "--strip": "drop all of LSIF that has no effect: elements of other labels, and the members `contents` and `tag`",
+    "--keep-file-ranges": "have ranges over whole files answer for each word that has nothing of its own",
+    "--keep-unique": "join projects by monikers of LSIF that are unique in a document, project, group or workspace alone: for projects of one workspace",
+    "--lenient": "end with 0 where something was left out for a flaw, and leave out of a set what can't be had: documents that are over the limits by "
+    "themselves, and places over too many referenceResults",
+    "--report": "say of LSIF how many rows the server makes of the dump, which ranges were merged and which labels have no effect",
+}
+VALUES = {
+    "--source FOLDER": "the files that were indexed, for positions that count bytes or code points",
+    "--root ADDRESS": "the address, or the folder, that documents are below, in place of the input's own",
+}
+OF_SET = {
+    "--name NAME": "the set's name, of at most 47 characters of a-z 0-9 _ -; that of OUT without it",
+    "--revision REV": "the revision of the code, which the manifest keeps",
+    "--tags FILE": "a tags file, which is cut as the dump is",
+    "--tags-folder FOLDER": "where the tags file was made, the folder of the call without it",
+}
+NUMBERS = {
+    "--elements": "at most so many elements a part, 100000 without it",
+    "--jobs": "how many processes write, one for each processor that the call may use without it",
+}
 
 
 def add_prepare(parser: argparse.ArgumentParser) -> None:
     """The words of `prepare`."""
-    add_flags(parser)
+    group = parser.add_argument_group("of a set")
+    for option, text in FLAGS.items():
+        parser.add_argument(option, action="store_true", help=text)
+    groups: list[tuple[argparse._ActionsContainer, dict[str, str]]]
+    groups = [(parser, VALUES), (group, OF_SET)]
+    for to, values in groups:
+        for option, text in values.items():
+            name, metavar = option.split()
+            to.add_argument(name, metavar=metavar, help=text)
     parser.add_argument(
         "--without",
         action="append",
@@ -136,26 +101,24 @@ def add_prepare(parser: argparse.ArgumentParser) -> None:
         help="leave out the documents whose path from the project's root on, or address, is like GLOB, where `*` matches `/` too",
     )
     parser.add_argument(
-        "--source",
-        metavar="FOLDER",
-        help="the files that were indexed, for positions that count bytes or code points",
-    )
-    parser.add_argument(
         "--encoding",
         choices=list(ENCODINGS),
         help="what characters count in documents of a SCIP index that don't say so",
-    )
-    parser.add_argument(
-        "--root",
-        metavar="ADDRESS",
-        help="the address, or the folder, that documents are below, in place of the input's own",
     )
     parser.add_argument(
         "--profile",
         choices=["1", "2"],
         help="how the dump is read, for the report and a set; 1 without it",
     )
-    add_set(parser)
+    group.add_argument("--set", action="store_true", help="make a set of what isn't too large too")
+    group.add_argument(
+        "--map",
+        action="append",
+        metavar="URI=FOLDER",
+        help="documents below URI are the files of FOLDER, whose digests the manifest keeps",
+    )
+    for option, text in NUMBERS.items():
+        group.add_argument(option, type=int, metavar="N", help=text)
     parser.add_argument(
         "input", metavar="IN", help="the indexer's dump or index, or - for the standard input"
     )

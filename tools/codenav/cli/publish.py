@@ -119,14 +119,14 @@ def work_folder(kept: Optional[str]) -> Iterator[str]:
         yield folder
 
 
-def settings_of(url: str, target: Target, made: Made, path: str, overwrites: bool) -> str:
-    """The text of the settings of what is published; nothing where the file has them. Raises
+def settings_of(url: str, target: Target, made: Made, overwrites: bool) -> str:
+    """The text of the settings of what is published; nothing where it has them. Raises
     BadCall."""
     wanted: dict[str, Any] = {"server": plain(url), "project": target.project}
     if target.servers:
         wanted["servers"] = [plain(server) for server in target.servers]
     wanted["map"] = {made.where: os.curdir}
-    return new_settings(path, wanted, overwrites)
+    return new_settings(os.path.join(made.folder, FILE), wanted, overwrites)
 
 
 def uploaded(made: Made, sent: Sent, target: Target) -> Iterator[str]:
@@ -165,30 +165,36 @@ def as_json(made: Made, sent: Optional[Sent], target: Target) -> str:
         found["uploaded"] = [vars(one) for one in sent.accepted]
         found["set"] = sent.report and vars(sent.report)
     found["documents"], found["revision"] = made.where, made.commit or None
-    found["left out"] = [
+    found["left_out"] = [
         {"what": row.what, "count": row.number, "why": row.why} for row in made.left_out
     ]
     return json.dumps(found, separators=(",", ":"))
 
 
-def say(call: PublishCall, made: Made, sent: Optional[Sent], target: Target, written: str) -> None:
-    """Prints what was done, which file of settings was written, and what was left out."""
-    if call.json:
-        print(as_json(made, sent, target))
-        return
-    for line in uploaded(made, sent, target) if sent is not None else ():
+def say(call: PublishCall, made: Made, sent: Sent, target: Target, settings: str) -> None:
+    """Says what was uploaded, and writes the settings into the checkout where there are some."""
+    for other in sent.lacking:
+        name = shown_name(target.project)
+        text = f"publish {shown_name(other)} again: it's joined to {name}, and its surface isn't at {target.home}"
+        print(f"{TOOL}: {text}", file=sys.stderr)
+    for line in () if call.json else uploaded(made, sent, target):
         print(line)
-    if written:
-        print(f"written {written}")
-    for line in table(made.left_out):
-        print(line)
+    path = os.path.join(made.folder, FILE)
+    if settings:
+        with whole_file(path) as file:
+            file.write(settings.encode())
+        if not call.json:
+            print(f"written {path}")
+    pinned = found_in_file(path).get("revision") if os.path.isfile(path) else None
+    if pinned not in (None, made.commit):
+        print(f"{TOOL}: {path}: tools go by its revision {pinned} there", file=sys.stderr)
 
 
 def run_publish(call: PublishCall) -> int:
     """Goes from the checkout to the server; answers 1 where that refuses what was made, or
     would."""
     url, project, folder = target_of(*url_in([*call.words]))
-    servers, path = servers_in(call.servers, folder), os.path.join(folder, FILE)
+    servers = servers_in(call.servers, folder)
     target = target_at(url, project, servers, call.servers_that_join, call.set)
     with Shown(TOOL, True) as shows:
         making, sent, settings = Making(folder, target, call, shows), None, ""
@@ -198,23 +204,16 @@ def run_publish(call: PublishCall) -> int:
             with work_folder(call.keep) as work:
                 made = making.make(work)
                 if call.write_settings:
-                    settings = settings_of(url, target, made, path, call.overwrite)
+                    settings = settings_of(url, target, made, call.overwrite)
                 sent = None if call.dry_run else send(made, target, shows)
         except Refused as fault:
             for line in str(fault).splitlines():
                 shows.warn(line)
             return 1
-    for other in sent.lacking if sent else ():
-        name = shown_name(project)
-        text = f"publish {shown_name(other)} again: it's joined to {name}, and its surface isn't at {target.home}"
-        print(f"{TOOL}: {text}", file=sys.stderr)
-    if sent and settings:
-        with whole_file(path) as file:
-            file.write(settings.encode())
-    pinned = found_in_file(path).get("revision") if os.path.isfile(path) else None
-    if sent and pinned not in (None, made.commit):
-        print(f"{TOOL}: {path}: tools go by its revision {pinned} there", file=sys.stderr)
-    say(call, made, sent, target, path if sent and settings else "")
+    if sent is not None:
+        say(call, made, sent, target, settings)
+    for line in [as_json(made, sent, target)] if call.json else table(made.left_out):
+        print(line)
     return 0
 
 

@@ -53,9 +53,11 @@ class How:
 
 
 class Made(NamedTuple):
-    """What was made: the bodies, a dump first; the set that they are, where it's one; the address
-    that the documents are below, the commit that the index is of, and what was left out."""
+    """What was made of a checkout in a folder: the bodies, a dump first; the set that they are,
+    where it's one; the address that the documents are below, the commit that the index is of, and
+    what was left out."""
 
+    folder: str
     bodies: tuple[Body, ...]
     files: Optional[SetFiles]
     where: str

@@ -102,7 +102,7 @@ class Making:
             self.outcome = files.reading if is_scip(dump) else self.outcome
         self.check(bodies)
         rows = (*rows_of(self.outcome, self.profile), *self.left_out)
-        return Made(tuple(bodies), files, self.where, self.commit, rows)
+        return Made(self.folder, tuple(bodies), files, self.where, self.commit, rows)
 
     def raw_dump(self, work: str) -> str:
         """The file with the dump or the index of the checkout, which was given or is written now;
@@ -125,7 +125,7 @@ class Making:
         project. An index that becomes a set is split itself, but where a surface is made of the
         dump too."""
         is_split = is_scip(raw) and not self.target.servers
-        if self.is_set and is_split and not self.how.without:
+        if self.is_set and is_split:
             with opened_dump(raw) as source:
                 root = "" if isinstance(source, Source) else source.metadata.project_root
             self.where = folder_address(root) or self.where
@@ -149,18 +149,20 @@ class Making:
                     strip=True, without=tuple(self.how.without), reports=True, profile=profile
                 )
                 outcome = prepare(source, out, options, self.shows).outcome
-            elif self.how.without:
-                raise BadCall("--without is for dumps, and this is a SCIP index")
             else:
                 from codenav.dumps.scip.conversion import convert
 
-                outcome = convert(source, out, ScipOptions(self.folder), self.shows).outcome
+                outcome = convert(source, out, self.of_index(), self.shows).outcome
         for note in outcome.notes:
             if note.kind == MENDED:
                 self.shows.warn(str(note))
         if any(excess.code == "L01" for excess in outcome.over):
             raise Refused("\n".join(map(str, outcome.over)))
         return outcome
+
+    def of_index(self) -> ScipOptions:
+        """How an index is read."""
+        return ScipOptions(self.folder, without=tuple(self.how.without))
 
     def is_recorded(self, path: str) -> bool:
         """Adds to a dump, unless it becomes a set, of which revision it is; says whether it's within
@@ -218,7 +220,7 @@ class Making:
         with opened_dump(dump) as source:
             given: Union[str, IndexFile] = dump if isinstance(source, Source) else source
             try:
-                return split(given, options, folder, self.shows, ScipOptions(self.folder))
+                return split(given, options, folder, self.shows, self.of_index())
             except (BadCall, NotADump) as fault:
                 raise Refused(str(fault)) from None
 

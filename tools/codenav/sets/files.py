@@ -1,4 +1,4 @@
-"""The files of a set in a folder: its manifest, and beside it the dumps and the tags of its parts."""
+"""The files of a set in a folder: its manifest, and the dumps and the tags of its parts."""
 
 import os
 import re

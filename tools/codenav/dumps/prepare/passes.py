@@ -1,15 +1,13 @@
 """The passes over a plan by which is decided which ranges and edges stay. Each says what it needs of
 those before it."""
 
-import fnmatch
-from urllib.parse import unquote
-
-from codenav.addresses import below, folder_address
+from codenav.addresses import folder_address, is_like
 from codenav.dumps.overlaps import by_home, sorted_out
 from codenav.dumps.prepare.labels import DOCUMENT, PROJECT, RANGE
 from codenav.dumps.prepare.numbers import NONE
 from codenav.dumps.prepare.plan import DROPPED, KEPT, MOVED, Options, Plan
 from codenav.faults import NotADump
+from codenav.outcome import LEFT_AS_ASKED, unlike
 
 
 def drop(plan: Plan, options: Options) -> None:
@@ -109,22 +107,14 @@ def leave_out_documents(plan: Plan, options: Options) -> None:
     for glob in options.without:
         found = [number for number, uri in plan.survey.uris.items() if is_like(uri, root, glob)]
         if not found:
-            raise NotADump(
-                f"{plan.survey.name}: no document is like `{glob}`, which is to be left out"
-            )
+            raise NotADump(unlike(plan.survey.name, glob))
         left.update(found)
     for number in sorted(left):
-        plan.notes.mend("document left out, as --without asks", plan.survey.numbers.lines[number])
+        plan.notes.mend(LEFT_AS_ASKED, plan.survey.numbers.lines[number])
         plan.state[number] = DROPPED
     for number in range(plan.count) if left else ():
         if plan.kinds[number] == RANGE and plan.home[number] in left:
             plan.state[number] = DROPPED
-
-
-def is_like(uri: str, root: str, glob: str) -> bool:
-    """Whether a document's address, or its path from the root on, is like a pattern."""
-    path = unquote(below(root, uri) or uri)
-    return any(fnmatch.fnmatchcase(text, glob) for text in (path, uri))
 
 
 def sort_ranges(plan: Plan, options: Options) -> None:

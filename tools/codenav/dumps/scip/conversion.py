@@ -165,6 +165,7 @@ def converted(index: IndexFile, writer: Writer, options: ScipOptions, shows: Sho
         for own in (notes, Notes())
     )
     index.find(documents.uri_of)
+    documents.finish()
     shows.begin("prepared", 2 * index.size)
     index.watch = shows.at
     survey = surveyed(index, first)

@@ -1,17 +1,24 @@
 """Where the documents of a SCIP index are, and their texts. A document that can't be placed or read
 is left out, and noted."""
 
-import fnmatch
 import os
 import posixpath
 from typing import Optional, Sequence
 from urllib.parse import quote
 
-from codenav.addresses import KEPT, address_of, folder_address, is_address, root_of, spelled
+from codenav.addresses import (
+    KEPT,
+    address_of,
+    folder_address,
+    is_address,
+    is_like,
+    root_of,
+    spelled,
+)
 from codenav.dumps.scip.messages import IndexFile
 from codenav.dumps.scip.scip_pb2 import Document
 from codenav.faults import BadCall, NotADump
-from codenav.outcome import Notes
+from codenav.outcome import LEFT_AS_ASKED, MENDED, Notes, unlike
 from codenav.texts.columns import COUNTED, ENCODINGS, UTF_16, Columns
 from codenav.texts.decoded import body_of
 
@@ -28,6 +35,7 @@ class Documents:
         self.name, self.without, self.notes = index.name, without, notes
         self.paths: dict[str, str] = {}
         self.left: set[str] = set()
+        self.like: set[str] = set()
         tool = index.metadata.tool_info
         self.tool_info = {"name": tool.name, "version": tool.version}
         given = index.metadata.project_root if root is None else root
@@ -44,13 +52,22 @@ class Documents:
         if path in ("", ".", "..") or path.endswith("/..") or "\0" in path:
             self.notes.leave_out("document without a path", f"byte {byte}")
             return ""
-        if any(fnmatch.fnmatchcase(path, glob) for glob in self.without):
-            self.left.add(path)
-            return ""
         root = self.root.removesuffix("/")
         uri = address_of(path) or spelled(f"{root}/{quote(path, safe=KEPT)}")
-        self.paths.setdefault(uri, path)
-        return uri
+        globs = [glob for glob in self.without if is_like(uri, self.root, glob)]
+        if globs and path not in self.left:
+            self.notes.add(MENDED, LEFT_AS_ASKED, path)
+            self.left.add(path)
+            self.like.update(globs)
+        if not globs:
+            self.paths.setdefault(uri, path)
+        return "" if globs else uri
+
+    def finish(self) -> None:
+        """Raises NotADump where no document is like one that is to be left out."""
+        for glob in self.without:
+            if glob not in self.like:
+                raise NotADump(unlike(self.name, glob))
 
 
 class Texts:

@@ -1,8 +1,8 @@
 """The claim of a set, by which one publish of it goes on at a time.
 
 The server keeps keys for good and answers a key that it knows by the reply of the first time. So a
-claim is put under a key that the one before it determines: of two that follow the same one the first
-alone acts, and the other finds that it isn't there.
+claim is put under a key that the one before it determines: of two that follow the same one the
+first alone acts, and the other finds that it isn't there.
 """
 
 import os
