@@ -16,7 +16,7 @@ use Rattle.sqlite_trees.specs.Tree.{Trees, IsTable, rowid}
 use Rattle.sqlite_trees.specs.Objects.{catalog_tree}
 use Rattle.sqlite_catalog.specs.Listing.{Lists}
 use Rattle.tables.specs.Schema.{IsSchemaOne, schema_one, schema_two}
-use Rattle.tables.specs.TableTrees.{format_tree}
+use Rattle.tables.specs.TableTrees.{format_tree, slot_tree, part_profile_tree, more_tree}
 
 -- the rows that pass the tests, and what is shown of each
 abbrev pub chosen : List Term → List Term → Row → List Row → List Row
@@ -79,11 +79,11 @@ profile_shown = col 1 0 ∷ lit (Int (pos 1)) ∷ []
 -- of `part_profile` are those of `SELECT id, 1 FROM slot WHERE part = 1`, so each dump has profile
 -- 1; and `more` has no row.
 pub record WasUpgraded (old new : Trees) : Type 0 where
-  pub version : new 0 ≡ version_row 2
+  pub version : new format_tree ≡ version_row 2
   pub others : AllByRecursion (λ t. t.tree ≢ format_tree → new t.tree ≡ old t.tree) schema_one.tables
-  pub profiles : AreNumbered (old 1) → (row : Row) → Holds new 22 row ↔ Has (chosen dump_tests profile_shown [] (old 1)) row
-  pub ordered : AreNumbered (old 1) → IsOrdered (new 22)
-  pub more : new 24 ≡ []
+  pub profiles : AreNumbered (old slot_tree) → (row : Row) → Holds new part_profile_tree row ↔ Has (chosen dump_tests profile_shown [] (old slot_tree)) row
+  pub ordered : AreNumbered (old slot_tree) → IsOrdered (new part_profile_tree)
+  pub more : new more_tree ≡ []
   pub listed : IsListed schema_two new
 
 pub record IsUpgraded (old new : Database) : Type 0 where

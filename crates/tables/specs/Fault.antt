@@ -1,4 +1,5 @@
--- Why the tables refuse: the code and the text of each fault, and which errors of the store are which.
+-- Why the tables refuse: the code and the text of each fault, and which errors of the store are
+-- which.
 use Rattle.std.specs.Prelude.{◌≡◌, ◌⊎◌, ℕ, Bool, true, List, codes}
 use Rattle.sqlite.specs.declared.error.Error.{Error}
 use Rattle.sqlite.specs.declared.error.Error.TheVariants.{SqliteFailure}

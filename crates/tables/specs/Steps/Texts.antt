@@ -71,14 +71,15 @@ abbrev pub batch : List (List ℕ) → List ℕ → List ℕ
 batch [] last = last
 batch (text ∷ texts) last = (text ++ semicolon) ++ batch texts last
 
--- the tables of format 1, what format 2 has more, and the indexes of format 2 in the place of those
--- that may be there already
+-- those that make the tables of format 1
 abbrev pub first_texts : List (List ℕ)
 first_texts = format_text ∷ slot_text ∷ keyed_text ∷ document_text ∷ range_row_text ∷ item_text ∷ hover_text ∷ mark_text ∷ bearer_text ∷ tag_text ∷ []
 
+-- those that make what format 2 has more
 abbrev pub added_texts : List (List ℕ)
 added_texts = range_by_start_text ∷ bearer_by_key_text ∷ tag_by_name_text ∷ part_profile_text ∷ more_text ∷ []
 
+-- the one that drops the index of this name, where there is one
 abbrev pub drop_text : List ℕ → List ℕ
 drop_text name = codes "DROP INDEX IF EXISTS " ++ name
 
