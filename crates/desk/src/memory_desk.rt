@@ -1,5 +1,5 @@
 //! The desk over a database in files in memory, which is new and empty. One over a file is made by
-//! the program (`codenav/src/database.rt`).
+//! the program (`calls/src/database.rt`).
 ghost use Rattle.std.specs.Prelude.{◌≡◌, ◌∷◌, [], false, IfOk};
 ghost use Rattle.machine.specs.State.{nothing};
 

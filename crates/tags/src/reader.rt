@@ -1,5 +1,5 @@
-//! The reader of a tags file that keeps the tags, for uploads. One that only counts them is in
-//! `checker.rt`. `specs/States`.
+//! The reader of a tags file that keeps the tags, for uploads. What counts them alone is in
+//! `counting.rt`. `specs/States`.
 ghost use Rattle.std.specs.Prelude.{◌≡◌, ◌++◌, ◌∷◌, ◌<◌, [], vec_capacity, vec_len};
 ghost use Rattle.tags.specs.Faults.{result_map};
 ghost use Rattle.tags.specs.Fault.{Reading};

@@ -1,6 +1,6 @@
 //! Dumps that are fed or read, the faults that are returned for good, and the look-ups of a checked
-//! dump. Reports of dumps of each label and each fault are in the crate `codenav`
-//! (`tests/labels.rt`, `tests/faults.rt`).
+//! dump. Reports of dumps of each label and each fault are in the crate `test_calls`
+//! (`labels.rt`, `faults.rt`).
 mod requests;
 mod spans;
 

@@ -1,5 +1,5 @@
-//! Tests of `lsif` and `dump` over their public calls: elements and lines in `elements`, dumps in
-//! `dumps`.
+//! Tests of `streams`, `lsif` and `dump` over their public calls: elements and lines in `elements`,
+//! dumps in `dumps`.
 #![tactic(auto)]
 
 #[cfg(test)]
