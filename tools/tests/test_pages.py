@@ -258,6 +258,17 @@ class Pages(unittest.TestCase):
         self.assertLessEqual(text.count("\n"), MOST_LINES)
         self.assertEqual(set(PAGES) - set(LINK.findall(text)), {"README.md"})
 
+    def test_searches(self) -> None:
+        """Each search of the map finds files of the code."""
+        with open(os.path.join(TOP, "docs", "inside", "MAP.md"), encoding="utf-8") as page:
+            text = page.read()
+        searches = [" ".join(one.split()) for one in re.findall(r"`(git grep [^`]*)`", text)]
+        self.assertGreater(len(searches), 15)
+        for search in searches:
+            found = subprocess.run(["sh", "-c", search], cwd=TOP, capture_output=True, check=False)
+            own = [one for one in found.stdout.split() if not one.startswith(b"docs/")]
+            self.assertGreater(len(own), 1, search)
+
     def test_each_word(self) -> None:
         """Each word of the command has a section, or a row of the program's table, and examples."""
         said = subprocess.run(
