@@ -16,6 +16,7 @@ from codenav.cli.show import Shown
 from codenav.files import whole_file
 from codenav.index.indexers import INDEXERS
 from codenav.names import set_name, shown_name
+from codenav.printed import line as printed
 from codenav.publishing.made import How, Made, Refused, Row
 from codenav.publishing.making import Making
 from codenav.publishing.send import Sent, send
@@ -199,16 +200,17 @@ def say(call: PublishCall, made: Made, sent: Sent, target: Target, settings: str
         text = f"publish {shown_name(other)} again: it's joined to {name}, and its surface isn't at {target.home}"
         print(f"{TOOL}: {text}", file=sys.stderr)
     for line in () if call.json else uploaded(made, sent, target):
-        print(line)
+        print(printed(line))
     path = os.path.join(made.folder, FILE)
     if settings:
         with whole_file(path) as file:
             file.write(settings.encode())
         if not call.json:
-            print(f"written {path}")
+            print(printed(f"written {path}"))
     pinned = found_in_file(path).get("revision") if os.path.isfile(path) else None
     if pinned not in (None, made.commit):
-        print(f"{TOOL}: {path}: tools go by its revision {pinned} there", file=sys.stderr)
+        text = f"{TOOL}: {path}: tools go by its revision {pinned} there"
+        print(printed(text), file=sys.stderr)
 
 
 def run_publish(call: PublishCall) -> int:
@@ -234,9 +236,9 @@ def run_publish(call: PublishCall) -> int:
     if sent is not None:
         say(call, made, sent, target, settings)
     for line in not_uploaded(made, target) if sent is None and not call.json else ():
-        print(line)
+        print(printed(line))
     for line in [as_json(made, sent, target)] if call.json else table(made.left_out):
-        print(line)
+        print(printed(line))
     return 0
 
 

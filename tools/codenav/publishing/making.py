@@ -11,16 +11,15 @@ from typing import TYPE_CHECKING, Iterator, Optional, Sequence, Union
 
 from codenav.addresses import below, folder_address
 from codenav.dumps.check import explain
-from codenav.dumps.dump import is_scip, opened_dump
+from codenav.dumps.dump import is_scip, opened_dump, profile_of
 from codenav.dumps.lsif.reading import Source
 from codenav.dumps.prepare.plan import Options
 from codenav.dumps.prepare.prepare import prepare
 from codenav.dumps.scip.options import ScipOptions
-from codenav.faults import BadCall, NotADump
+from codenav.faults import BadCall, NotADump, Unfit
 from codenav.index.indexers import Choice, fitting, indexed, named
 from codenav.index.tags_file import LEFT_OUT as TAGS_LEFT_OUT
 from codenav.index.tags_file import tagged
-from codenav.kinds import KINDS
 from codenav.names import set_name
 from codenav.outcome import MENDED, Outcome
 from codenav.program import Program
@@ -43,16 +42,6 @@ MISSING = {
     "lsif": "no indexer is known for what is here (--index)",
     "tags": "ctags isn't installed (Debian's universal-ctags)",
 }
-
-
-def profile_of(path: str) -> str:
-    """The profile in which a prepared dump is read: 2 where it has results of that alone. Of an
-    index that is split itself it isn't known."""
-    if is_scip(path):
-        return "2"
-    labels = [f'"{kind.result}"'.encode() for kind in KINDS if not kind.is_of("1")]
-    with open(path, "rb") as dump:
-        return "2" if any(label in line for line in dump for label in labels) else "1"
 
 
 def folder_inside(folder: str, where: str, uris: Sequence[str]) -> str:
@@ -166,9 +155,11 @@ class Making:
         """Writes the dump that the server takes of a dump or an index."""
         with opened_dump(raw) as source:
             if isinstance(source, Source):
-                profile = self.profile or "2"
                 options = Options(
-                    strip=True, without=tuple(self.how.without), reports=True, profile=profile
+                    strip=True,
+                    without=tuple(self.how.without),
+                    reports=True,
+                    profile=self.profile,
                 )
                 outcome = prepare(source, out, options, self.shows).outcome
             else:
@@ -241,12 +232,20 @@ class Making:
         )
         if not self.how.dry_run:
             fetch_cuts(Store(self.target.home), name, folder)
-        options = SplitOptions(name, self.profile, self.commit, maps, tags, self.folder)
+        options = SplitOptions(
+            name,
+            self.profile,
+            self.commit,
+            maps,
+            tags,
+            self.folder,
+            shown=f"the dump of {self.folder}",
+        )
         with opened_dump(dump) as source:
             given: Union[str, IndexFile] = dump if isinstance(source, Source) else source
             try:
                 return split(given, options, folder, self.shows, self.of_index())
-            except (BadCall, NotADump) as fault:
+            except Unfit as fault:
                 raise Refused(str(fault)) from None
 
     def parts(self, files: SetFiles) -> Iterator[Body]:
