@@ -131,7 +131,7 @@ class HostileCheckout(InRepository, OnServer):
                 else:
                     shutil.rmtree(os.path.join(self.top, ".git"))
                 before = self.files()
-                rows = (
+                rows: tuple[list[str], ...] = (
                     ["--no-index"],
                     ["--index", index],
                     ["--set", "--index", index],

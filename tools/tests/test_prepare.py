@@ -1,12 +1,12 @@
 """Tests of what `prepare` makes of an input: a dump, or a set of what is too large for one."""
 
-import glob
 import gzip
 import io
 import os
 import tempfile
 import unittest
 from contextlib import redirect_stderr
+from glob import glob as files_like
 from unittest import mock
 
 from codenav import limits
@@ -86,7 +86,7 @@ class Prepare(unittest.TestCase):
         missing."""
         samples = os.path.join(TOP, "tools", "tests", "samples", "*", "dump.lsif")
         profiles = set()
-        for dump in (RAW, *sorted(glob.glob(samples))):
+        for dump in (RAW, *sorted(files_like(samples))):
             with self.subTest(dump):
                 home = tempfile.mkdtemp(dir=self.folder)
                 prepared, self.out = os.path.join(home, "dump"), os.path.join(home, "a", "b")
