@@ -57,7 +57,8 @@ class Prepare(unittest.TestCase):
             self.assertEqual(self.called(*words)[0], 0)
             self.assertEqual(self.parts(), found)
             self.out += "-asked"
-            status, said = self.called("--set", *words[:-1], self.out)
+            with mock.patch.object(limits, "MOST_ELEMENTS", most):
+                status, said = self.called("--set", *words[:-1], self.out)
             self.assertEqual((status, "over the limits" in said), (0, False), said)
             self.assertEqual(self.parts(), found)
 

@@ -398,7 +398,7 @@ class Publish(OnCheckout):
             "--dry-run", "--keep", kept, "app", self.checkout, url="http://127.0.0.1:1"
         )
         where = "http://127.0.0.1:1"
-        line = f"nothing was uploaded, as --dry-run asks: app at {where} would be a dump, profile 1 and tags"
+        line = f"nothing was uploaded, as --dry-run asks: app at {where} would have a dump, profile 1 and tags"
         self.assertEqual((status, said[0], listed(self.url)), (0, line, []))
         self.assertEqual(said[1].split()[:2], ["left", "out"])
         self.assertLessEqual({"dump.lsif", "tags"}, set(os.listdir(kept)))

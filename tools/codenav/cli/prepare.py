@@ -185,8 +185,9 @@ def made(dump: Dump, call: PrepareCall, path: str, shows: Shows) -> tuple[list[s
             advice = [ADVICE] if outcome.over else []
             return [*outcome.lines(), *advice], outcome.is_whole(call.lenient)
         if isinstance(dump, Source):
-            lines = outcome.lines()
-            is_whole = replace(outcome, over=()).is_whole(call.lenient)
+            within = replace(outcome, over=())
+            lines = (within if call.set else outcome).lines()
+            is_whole = within.is_whole(call.lenient)
     files = as_set(dump, call, path, shows)
     return [*lines, *files.lines()], is_whole and files.reading.is_whole(call.lenient)
 

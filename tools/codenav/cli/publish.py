@@ -154,9 +154,9 @@ def not_uploaded(made: Made, target: Target) -> Iterator[str]:
         "tags" if one.part == "tags" else f"a dump, profile {one.profile}" for one in made.bodies
     ]
     if made.files is not None:
-        what = [f"a set of {len(made.files.head.parts)} parts, profile {made.profile}"]
+        what = [f"{len(made.files.head.parts)} parts, in profile {made.profile}"]
     name, where = shown_name(target.project), plain(target.home)
-    yield f"nothing was uploaded, as --dry-run asks: {name} at {where} would be {' and '.join(what)}"
+    yield f"nothing was uploaded, as --dry-run asks: {name} at {where} would have {' and '.join(what)}"
 
 
 def documents(made: Made) -> Iterator[str]:
