@@ -21,6 +21,10 @@ class BadCall(Fault):
     """A call that can't be carried out as it was made."""
 
 
+class Unfit(BadCall):
+    """Something that the server takes neither whole nor in parts."""
+
+
 class NotADump(Fault):
     """An input that is no dump: LSIF, or a SCIP index, that can be read to its end."""
 

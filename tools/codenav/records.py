@@ -16,6 +16,7 @@ AT = {"uri": ADDRESS, "line": 0, "character": 0}
 """Where a project is asked for the record, by a hover."""
 COMMIT = re.compile(r"[0-9a-f]{40}|[0-9a-f]{64}")
 MARK_BYTES = 16
+MOST_DOCUMENTS = 100
 MARKS = re.compile(ADDRESS.encode() + rb"|\\u")
 
 
@@ -72,13 +73,14 @@ def common_folder(above: Optional[str], uri: str) -> str:
 
 class Prepared:
     """A dump that the server takes: how many elements it has, the address of the folder that was
-    indexed, which is the one that all documents are in where it doesn't say, and the record that it
-    has already."""
+    indexed, which is the one that all documents are in where it doesn't say, the addresses of its
+    first documents, and the record that it has already."""
 
     def __init__(self, path: str) -> None:
         self.path, self.elements, self.root = path, 0, ""
         self.above: Optional[str] = None
         self.taken: set[Any] = set()
+        self.documents: list[str] = []
         self.record: Optional[Record] = None
         self.is_recorded, self.is_ended = False, True
         with open(path, "rb") as dump:
@@ -91,7 +93,8 @@ class Prepared:
         characters, are read."""
         self.elements += 1
         self.is_ended = line.endswith(b"\n")
-        is_document = not self.root and b'"document"' in line
+        is_wanted = not self.root or len(self.documents) < MOST_DOCUMENTS
+        is_document = is_wanted and b'"document"' in line
         if self.elements > 1 and not is_document and not MARKS.search(line):
             return
         element = json.loads(line)
@@ -103,6 +106,7 @@ class Prepared:
             self.is_recorded = self.is_recorded or element["uri"] == ADDRESS
             if element["uri"] != ADDRESS:
                 self.above = common_folder(self.above, element["uri"])
+                self.documents.append(element["uri"])
         elif element["label"] == "hoverResult":
             self.record = record_in(element["result"].get("contents")) or self.record
 

@@ -147,7 +147,7 @@ def attached_monikers(size: int) -> Iterator[Element]:
 
 
 SHAPES: dict[str, tuple[Callable[[int], Iterator[Element]], int, str]] = {
-    "one document of 120,000 ranges": (one_document, 120_000, "alone makes 120000 elements"),
+    "one document of 120,000 ranges": (one_document, 120_000, "0.rs (120000 elements)"),
     "a symbol used in 12,000 documents": (used_everywhere, 12_000, ""),
     "50,000 documents of three ranges": (many_documents, 50_000, ""),
     "a chain of 9,800 `next` edges": (next_chain, 9_800, ""),

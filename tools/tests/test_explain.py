@@ -351,6 +351,41 @@ class Explain(unittest.TestCase):
             ],
         )
 
+    def test_what_is_accepted(self) -> None:
+        for report in "ok 11 elements", "ok 2 tags\n":
+            said = "FILE: accepted, so there's nothing to explain\n"
+            self.assertEqual(self.explained(b"", report)[:2], (0, said))
+
+    def test_tags(self) -> None:
+        """Of each code what a line is to be, and by which call ctags writes it so."""
+        emacs, format_1 = "\x0c\na.c,48\nint a;\x7fa\x011,0\n", "!_TAG_FILE_FORMAT\t1\t//\n"
+        rows = [
+            (emacs, "line 1: T03 control character", "FILE:1: \ufffd", "ctags without `-e`"),
+            ("a\tb\x1b\t1\n", "line 1: T03 control character", "FILE:1: a\ufffdb\ufffd\ufffd1", ""),
+            (format_1, "line 1: T08 format is not 2", "FILE:1: !_TAG", "without `--format=1`"),
+            (
+                "a variable 1 a.c\n",
+                "line 1: T04 fewer than three parts",
+                "FILE:1: a v",
+                "`ctags -x`",
+            ),
+            ('{"_type": "tag"}\n', "line 1: T04 fewer than three parts", "FILE:1: {", "json"),
+            ("b\ta.c\t1\na\ta.c\t1\n", "line 2: T10 names descend", "FILE:1: b", "--sort=yes"),
+            ("x" * 70_000 + "\n", "line 1: T01 line too long", "FILE:1: xxx", "65,536 bytes"),
+        ]
+        for body, report, line, advice in rows:
+            with self.subTest(report):
+                status, said, warned = self.explained(body.encode(), report)
+                self.assertEqual((status, warned), (0, ""))
+                shown = said.splitlines()
+                self.assertEqual(shown[0], f"FILE:1: {report[8:]}".replace(":1:", f":{report[5]}:"))
+                self.assertEqual(shown[1][: len(line)], line)
+                self.assertIn("What ctags should write: ", said)
+                self.assertIn(advice, said)
+        for number in range(1, 12):
+            report = f"line 1: T{number:02} text"
+            self.assertEqual(self.explained(b"a\ta.c\t1\n", report)[0], 0)
+
     def test_what_is_refused(self) -> None:
         whole = "\n".join(BASE)
         rings = [
@@ -363,21 +398,21 @@ class Explain(unittest.TestCase):
         for body, fault, message in (
             (
                 whole,
-                "ok 11 elements",
-                "not a fault of a dump, `line N: CODE text`: `ok 11 elements`",
+                "line 3: T12 x",
+                "not a fault of a dump or of tags, `line N: CODE text`: `line 3: T12 x`",
             ),
-            (
-                whole,
-                "line 3: T10 names descend",
-                "not a fault of a dump, `line N: CODE text`: `line 3: T10 names descend`",
-            ),
+            (whole, "line 12: T10 names descend", "FILE has no line 12"),
             (
                 whole,
                 "line 0: L04 id used before",
-                "not a fault of a dump, `line N: CODE text`: `line 0: L04 id used before`",
+                "not a fault of a dump or of tags, `line N: CODE text`: `line 0: L04 id used before`",
             ),
-            (whole, "line 3: L21 x", "not a fault of a dump, `line N: CODE text`: `line 3: L21 x`"),
-            (whole, "", "not a fault of a dump, `line N: CODE text`: ``"),
+            (
+                whole,
+                "line 3: L21 x",
+                "not a fault of a dump or of tags, `line N: CODE text`: `line 3: L21 x`",
+            ),
+            (whole, "", "not a fault of a dump or of tags, `line N: CODE text`: ``"),
             (whole, "line 12: L04 id used before", "FILE has 11 lines, and no line 12"),
             ("", "line 1: L02 not JSON", "FILE has 0 lines, and no line 1"),
             (

@@ -1,6 +1,7 @@
 """What people hold: a dump in each form that it's read in, and each input that is no dump, which is
 one line on the standard error with status 2 and leaves no file."""
 
+import base64
 import gzip
 import io
 import json
@@ -47,6 +48,12 @@ def dumped(*elements: dict[str, Any]) -> bytes:
 def vertex(own: Any, label: str, **members: Any) -> dict[str, Any]:
     """A vertex."""
     return {"id": own, "type": "vertex", "label": label, **members}
+
+
+def span(own: int, start: int, end: int) -> dict[str, Any]:
+    """A range on the first line."""
+    places = ({"line": 0, "character": character} for character in (start, end))
+    return vertex(own, "range", **dict(zip(("start", "end"), places)))
 
 
 class Input(unittest.TestCase):
@@ -218,8 +225,8 @@ class Input(unittest.TestCase):
                 'IN, line 4: no vertex has the id "6", which is named here; 6 is another id',
             ),
             (
-                "an edge to null",
-                dumped(META, vertex(2, "resultSet"), edge(3, "next", 2, None)),
+                "an edge to an object",
+                dumped(META, vertex(2, "resultSet"), edge(3, "next", 2, {})),
                 "IN, line 3: an edge `next` without the ids of what it joins",
             ),
             (
@@ -241,7 +248,12 @@ class Input(unittest.TestCase):
             ),
             (
                 "another encoding",
-                dumped({**META, "positionEncoding": "utf-8"}),
+                dumped(
+                    {**META, "positionEncoding": "utf-8"},
+                    vertex(2, "document", uri="file:///a"),
+                    span(3, 0, 1),
+                    edge(4, "contains", 2, [3]),
+                ),
                 "IN: its positions count bytes (utf-8): give --source, the folder that was indexed",
             ),
             (
@@ -256,6 +268,46 @@ class Input(unittest.TestCase):
                 packed_inputs, "CHUNK", 64 if name.startswith("long") else 1 << 20
             ):
                 self.assertEqual(self.called(body), (2, None, f"codenav prepare: {said}\n"))
+
+    def test_edges_without_a_target(self) -> None:
+        """They say nothing: they're dropped, and the rest stays."""
+        dump = [META, vertex(2, "document", uri="file:///a"), span(3, 0, 1)]
+        dump.append(edge(4, "contains", 2, [3]))
+        _, wanted, _ = self.called(dumped(*dump))
+        for label in ("contains", "next", "item", "textDocument/hover", "moniker", "own"):
+            bare: dict[str, Any] = {"id": 9, "type": "edge", "label": label, "outV": 3}
+            rows: list[dict[str, Any]] = [
+                {},
+                {"inV": None},
+                {"inVs": None},
+                {"inV": None, "inVs": {}},
+            ]
+            for more in rows:
+                with self.subTest(label, more=more):
+                    status, out, said = self.called(dumped(*dump, {**bare, **more}))
+                    self.assertEqual((status, out), (0, wanted), said)
+                    self.assertIn("mended: edge without a target, dropped: 1, the first", said)
+
+    def test_texts_within_a_dump(self) -> None:
+        """Positions in bytes or code points are converted by them, in base64 or plain, where no
+        folder is named; one of a document without a text is refused."""
+        text = "a\u00e9\U0001f600b"
+        coded = base64.b64encode(text.encode()).decode()
+        for encoding, at, wanted in ("utf-8", 7, 4), ("utf-32", 3, 4), ("utf-16", 4, 4):
+            for contents in text, coded:
+                with self.subTest(encoding, contents=contents):
+                    head: dict[str, Any] = {**META, "positionEncoding": encoding}
+                    document = vertex(2, "document", uri="file:///a", contents=contents)
+                    dump = [head, document, span(3, at, at + 1), edge(4, "contains", 2, [3])]
+                    for words in list[str](), ["--strip"]:
+                        status, out, said = self.called(dumped(*dump), *words)
+                        self.assertEqual(status, 0, said)
+                        rows = [json.loads(line) for line in (out or b"").splitlines()]
+                        found = [row["start"]["character"] for row in rows if "start" in row]
+                        self.assertEqual(found, [wanted])
+                    dump[1] = vertex(2, "document", uri="file:///a")
+                    is_refused = encoding != "utf-16"
+                    self.assertEqual(self.called(dumped(*dump))[0], 2 if is_refused else 0)
 
     def test_what_grows_when_it_is_unpacked(self) -> None:
         needs("zstandard", "python3-zstandard")

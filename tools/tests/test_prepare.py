@@ -6,11 +6,15 @@ import os
 import tempfile
 import unittest
 from contextlib import redirect_stderr
+from glob import glob as files_like
 from unittest import mock
 
 from codenav import limits
 from codenav.cli.prepare import PREPARE
+from codenav.dumps.dump import profile_of
+from codenav.progress import Quiet
 from codenav.sets.files import MANIFEST, read_head
+from codenav.sets.split.split import SplitOptions, split
 from tests.packages import needs
 from tests.servers import TOP
 
@@ -53,7 +57,8 @@ class Prepare(unittest.TestCase):
             self.assertEqual(self.called(*words)[0], 0)
             self.assertEqual(self.parts(), found)
             self.out += "-asked"
-            status, said = self.called("--set", *words[:-1], self.out)
+            with mock.patch.object(limits, "MOST_ELEMENTS", most):
+                status, said = self.called("--set", *words[:-1], self.out)
             self.assertEqual((status, "over the limits" in said), (0, False), said)
             self.assertEqual(self.parts(), found)
 
@@ -76,6 +81,37 @@ class Prepare(unittest.TestCase):
         self.assertEqual(
             self.called("--set", RAW, "-"), (2, f"codenav prepare: {said.replace('OUT', '-')}")
         )
+
+    def test_a_set_of_what_is_prepared(self) -> None:
+        """It's that of the dump as it stands, read as it asks for; its folder's own folder may be
+        missing."""
+        samples = os.path.join(TOP, "tools", "tests", "samples", "*", "dump.lsif")
+        profiles = set()
+        for dump in (RAW, *sorted(files_like(samples))):
+            with self.subTest(dump):
+                home = tempfile.mkdtemp(dir=self.folder)
+                prepared, self.out = os.path.join(home, "dump"), os.path.join(home, "a", "b")
+                more = ["--source", os.path.dirname(dump), "--lenient"]
+                if self.called(*more, dump, prepared)[0]:
+                    continue
+                words = ["--set", "--name", "own", "--jobs", "1", prepared, self.out]
+                status, said = self.called(*words)
+                self.assertEqual(status, 0, said)
+                found, options = self.parts(), SplitOptions("own", profile_of(prepared), jobs=1)
+                self.out += "-itself"
+                split(prepared, options, self.out, Quiet())
+                self.assertEqual(found, self.parts())
+                profiles.add(options.profile)
+        self.assertEqual(profiles, {"1", "2"})
+
+    def test_messages(self) -> None:
+        """They name what was given, and no file of the call's own."""
+        empty = os.path.join(self.folder, "empty")
+        with open(empty, "w", encoding="utf-8") as file:
+            file.write('{"id":1,"type":"vertex","label":"metaData","version":"0.6.0"}\n')
+        said = f"codenav prepare: {empty}: no document to write\n"
+        self.assertEqual(self.called("--set", empty, self.out), (2, said))
+        self.assertEqual(os.listdir(self.folder), ["empty"])
 
     def test_a_packed_index(self) -> None:
         """An index that is packed gives what it gives as it is."""

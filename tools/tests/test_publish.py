@@ -6,10 +6,12 @@ import json
 import os
 import re
 import shutil
+import signal
 import subprocess
 import sys
 import tempfile
 import textwrap
+import time
 import unittest
 from contextlib import redirect_stderr, redirect_stdout
 from typing import Optional
@@ -28,7 +30,7 @@ from codenav.sets.files import MANIFEST, read_documents
 from codenav.sets.publish.publish import Publish as Made
 from codenav.sets.publish.store import Store
 from tests.repository import git_in
-from tests.servers import TOP, OnServer
+from tests.servers import SECONDS, TOP, OnServer, command
 from tests.test_set_service import asked_at
 
 CRATE, RAW = os.path.join(TOP, "demo", "crate"), os.path.join(TOP, "demo", "crate.raw.lsif")
@@ -44,6 +46,21 @@ def script(path: str, *lines: str) -> str:
         file.write("\n".join(["#!/bin/sh", *lines, ""]))
     os.chmod(path, 0o755)
     return path
+
+
+def lines_of(path: str) -> list[str]:
+    """The lines of a file."""
+    with open(path, encoding="utf-8") as file:
+        return file.read().split()
+
+
+def is_running(pid: int) -> bool:
+    """Whether a process is there that hasn't ended."""
+    try:
+        with open(f"/proc/{pid}/stat", encoding="utf-8") as file:
+            return file.read().rpartition(")")[2].split()[0] != "Z"
+    except FileNotFoundError:
+        return False
 
 
 class OnCheckout(OnServer):
@@ -98,7 +115,8 @@ class Publish(OnCheckout):
         self.assertEqual(
             said[2], f"documents are below {where}: elsewhere ask with --map {where}=FOLDER"
         )
-        self.assertEqual(said[3].split(), ["left", "out", "count", "why"])
+        self.assertEqual(said[3], f"codenav remove {self.url} app removes it again")
+        self.assertEqual(said[4].split(), ["left", "out", "count", "why"])
         self.assertEqual(self.answer(), DEFINITION)
         self.assertEqual(listed(self.url), [{"dump": True, "name": "app", "tags": True}])
         names = [line.split(": ")[1] for line in stages.splitlines()]
@@ -307,7 +325,8 @@ class Publish(OnCheckout):
                 of = f"documents are below {where}: elsewhere ask with --map "
                 line = next(line for line in said if line.startswith("documents are"))
                 self.assertTrue(line.startswith(of), line)
-                given = line.removeprefix(of).replace("FOLDER", folder)
+                given = line.removeprefix(of).replace("FOLDER", self.checkout)
+                self.assertEqual(given.rpartition("=")[2], folder)
                 place = [os.path.join(self.checkout, "src", "lib.rs"), "18", "12"]
                 with redirect_stdout(io.StringIO()) as out, redirect_stderr(io.StringIO()):
                     ASK.main(["--map", given, self.url, "app", "definition", *place])
@@ -349,7 +368,7 @@ class Publish(OnCheckout):
         self.assertEqual(status, 0)
         self.assertRegex(said[0], "^uploaded app: [0-9]+ tags$")
         self.assertEqual(
-            [line.split() for line in said[1:]],
+            [line.split() for line in said[2:]],
             [["left", "out", "count", "why"], ["tags", "1", "not", "UTF-8"]],
         )
         self.assertEqual(listed(self.url), [{"dump": False, "name": "app", "tags": True}])
@@ -369,7 +388,7 @@ class Publish(OnCheckout):
         status, said, _ = self.published("app", other)
         self.assertEqual((status, said[0]), (0, "uploaded app: 1 tags"))
         self.assertEqual(
-            [line.split() for line in said[2:]],
+            [line.split() for line in said[3:]],
             [["dump", *"no indexer is known for what is here (--index)".split()]],
         )
 
@@ -378,7 +397,10 @@ class Publish(OnCheckout):
         status, said, _ = self.published(
             "--dry-run", "--keep", kept, "app", self.checkout, url="http://127.0.0.1:1"
         )
-        self.assertEqual((status, said[0].split()[:2], listed(self.url)), (0, ["left", "out"], []))
+        where = "http://127.0.0.1:1"
+        line = f"nothing was uploaded, as --dry-run asks: app at {where} would have a dump, profile 1 and tags"
+        self.assertEqual((status, said[0], listed(self.url)), (0, line, []))
+        self.assertEqual(said[1].split()[:2], ["left", "out"])
         self.assertLessEqual({"dump.lsif", "tags"}, set(os.listdir(kept)))
 
     def test_what_is_refused(self) -> None:
@@ -452,13 +474,13 @@ class Publish(OnCheckout):
         expected = ["app file:///src/tr/crate/src/scale.rs 3"]
         for words, said, is_set in (
             (["app"], "app: a dump of .* elements, profile 1", False),
-            (["--set", "app"], "app: a set, parts 1, kept 0, new 1, removed 0", True),
+            (["--set", "app"], "app: a set, parts 1, kept 0, new 1, removed 0, profile 1", True),
             (
                 ["--dump", raw, "--no-tags", "app"],
-                "app: a set, parts 1, kept 0, new 1, removed 1",
+                "app: a set, parts 1, kept 0, new 1, removed 1, profile 1",
                 True,
             ),
-            (["--set", "app"], "app: a set, parts 1, kept 0, new 1, removed 1", True),
+            (["--set", "app"], "app: a set, parts 1, kept 0, new 1, removed 1, profile 1", True),
             (["app"], "app: a dump of .* elements, profile 1", False),
         ):
             status, printed, stages = self.published(*words, self.checkout)
@@ -505,7 +527,7 @@ class Publish(OnCheckout):
             missing[::2],
             (
                 2,
-                f"codenav publish: {self.checkout}: rust-analyzer would index this, and isn't on the path\n",
+                f"codenav publish: {self.checkout}: rust-analyzer would index this, and isn't on the path; --no-index uploads tags alone\n",
             ),
         )
         for words, url, said in (
@@ -523,6 +545,99 @@ class Publish(OnCheckout):
         ):
             with mock.patch("time.sleep"):
                 self.assertEqual(self.published(*words, url=url), (2, [], said))
+
+    def test_an_indexer_that_writes_nothing(self) -> None:
+        """What an earlier call kept isn't its index; and the kept folder's name may be relative."""
+        here = os.getcwd()
+        self.addCleanup(os.chdir, here)
+        os.chdir(self.home)
+        call = ["--no-tags", "--keep", "kept", "app", self.checkout]
+        self.assertEqual(self.published("--index", f'cp {RAW} "$OUT"', *call)[0], 0)
+        for line in "true", "true >&2":
+            status, said, stages = self.published("--index", line, *call)
+            wanted = f"codenav publish: the indexer wrote nothing: {line}"
+            self.assertEqual((status, said, stages.splitlines()[-1]), (2, [], wanted))
+        call.remove("--no-tags")
+        self.assertEqual(self.published("--index", f"cat {RAW}", *call)[0], 0)
+
+    def test_languages(self) -> None:
+        """Which are indexed, and what is said of the others: by files at the top of the checkout, and
+        by the uppermost ones below it."""
+        script(os.path.join(self.bin, "scip-python"), f"cat {RAW}")
+        go = "go/b/go.mod is for scip-go: publish its folder as a project of its own"
+        more = "go/a/go.mod and 1 more is for scip-go: publish its folder as a project of its own"
+        python = (
+            "setup.py is for scip-python: publish it as another project by --indexer scip-python"
+        )
+        ruby = "Gemfile is for scip-ruby, which isn't on the path"
+        below = "r/Cargo.toml is for rust-analyzer: publish its folder as a project of its own"
+        rows: list[tuple[list[str], list[str], int, str, list[str]]] = [
+            (["Cargo.toml"], [], 0, "rust-analyzer lsif .", []),
+            (["Cargo.toml", "x/Cargo.toml"], [], 0, "rust-analyzer lsif .", []),
+            (["Cargo.toml", "setup.py"], [], 0, "rust-analyzer lsif .", [python]),
+            (["Cargo.toml", "Gemfile"], [], 0, "rust-analyzer lsif .", [ruby]),
+            (["Gemfile", "setup.py"], [], 0, "scip-python index", [ruby]),
+            (["Cargo.toml", "go/b/go.mod", "go/b/c/go.mod"], [], 0, "rust-analyzer", [go]),
+            (["Cargo.toml", "go/b/go.mod", "go/a/go.mod"], [], 0, "rust-analyzer", [more]),
+            (["r/Cargo.toml", "main.c"], [], 0, "", [below]),
+            (["setup.py", "Cargo.toml"], ["--indexer", "scip-python"], 0, "scip-python", []),
+            (["r/Cargo.toml"], ["--no-tags"], 2, "", [below]),
+            (
+                ["Gemfile"],
+                [],
+                2,
+                "",
+                ["scip-ruby would index this, and isn't on the path; --no-index"],
+            ),
+            (["setup.py", "Cargo.toml"], ["--dry-run"], 0, "rust-analyzer", [python]),
+        ]
+        for names, words, wanted, indexer, left in rows:
+            with self.subTest(names, words=words):
+                top = os.path.join(self.enterContext(tempfile.TemporaryDirectory()), "top")
+                for name in names:
+                    path = os.path.join(top, name)
+                    os.makedirs(os.path.dirname(path), exist_ok=True)
+                    with open(path, "w", encoding="utf-8") as file:
+                        file.write("int main(void) { return 0; }\n")
+                status, said, stages = self.published(*words, "app", top)
+                self.assertEqual(status, wanted, stages)
+                whole = "\n".join([*said, stages])
+                self.assertEqual("indexed by" in whole, indexer != "")
+                self.assertIn(indexer, whole)
+                self.assertEqual([one for one in left if one not in whole], [])
+                self.assertEqual(whole.count(" is for "), sum(" is for " in one for one in left))
+
+    def test_signals(self) -> None:
+        """At the end of the call nothing that the indexer started is left, and no files are."""
+        temporary = os.path.join(self.home, "temporary")
+        os.mkdir(temporary)
+        line = "trap '' TERM; sleep 1000 & echo $! >&2; sleep 1000 & echo $! >&2; {}"
+        pids = os.path.join(self.home, "pids")
+        rows = (
+            ("wait", signal.SIGTERM, 143),
+            ("wait", signal.SIGINT, 130),
+            (f"cat {RAW}", 0, 0),
+            ("exit 3", 0, 2),
+        )
+        for last, number, wanted in rows:
+            with self.subTest(last, number=number):
+                with open(pids, "wb"):
+                    pass
+                index = line.format(last).replace(">&2", f">>{pids}")
+                words = ["--no-tags", "--index", index, self.url, "app", self.checkout]
+                environment = {**os.environ, "TMPDIR": temporary}
+                with subprocess.Popen(
+                    [*command("publish"), *words], stderr=subprocess.PIPE, env=environment
+                ) as call:
+                    while number and len(found := lines_of(pids)) < 2:
+                        time.sleep(0.05)
+                    if number:
+                        call.send_signal(number)
+                    call.communicate(timeout=SECONDS * 3)
+                found = lines_of(pids)
+                self.assertEqual((call.returncode, len(found)), (wanted, 2))
+                self.assertEqual([pid for pid in found if is_running(int(pid))], [])
+                self.assertEqual(os.listdir(temporary), [])
 
 
 class Parts(unittest.TestCase):

@@ -406,6 +406,10 @@ class Scip(unittest.TestCase):
             (one(field(2, b"\x13")), [], broken),
             (one(field(2, b"\x18" + b"\xff" * 10)), [], broken),
             (one(field(2, field(2, b"\xff"))), [], broken),
+            (metadata() + b"\x78\x05" + b"\x7d" + bytes(4) + b"\x79" + bytes(8), [], None),
+            (metadata() + b"\x7b", [], "INDEX: no SCIP index, or cut off, at byte 40"),
+            (metadata() + b"\x79" + bytes(7), [], "INDEX: no SCIP index, or cut off, at byte 40"),
+            (metadata() + b"\x78", [], "INDEX: no SCIP index, or cut off, at byte 40"),
             (
                 one(occurrence([0, 0, 1], f), encoding=UTF_8),
                 [],

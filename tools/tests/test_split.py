@@ -1,6 +1,7 @@
 """Tests of splitting a dump: what is refused, which cuts it keeps, and what it writes."""
 
 import io
+import json
 import os
 import subprocess
 import tempfile
@@ -10,7 +11,7 @@ from unittest import mock
 
 from codenav.cli.explain import WHY
 from codenav.sets import files, manifest
-from codenav.sets.split import chains, flattening, split
+from codenav.sets.split import chains, cuts, flattening, split
 from tests.dump_walks import body_of
 from tests.hostile_dumps import SHAPES
 from tests.servers import TOP, command
@@ -168,13 +169,85 @@ class Split(unittest.TestCase):
         body = body_of(made({"file:///a": 10, "file:///b": 80, "file:///c": 10, "file:///d": 200}))
         status, said = self.split(body, elements=100)
         self.assertEqual(status, 2)
-        self.assertIn("file:///d alone makes 200 elements", said)
+        self.assertIn(": file:///d (200 elements), file:///b (", said)
         status, said = self.split(body, elements=100, is_lenient=True)
         self.assertEqual(status, 0)
         self.assertEqual(
             [uri in said for uri in ("left out: file:///b", "left out: file:///d")], [True, True]
         )
         self.assertEqual(self.head().documents, 2)
+
+    def test_all_documents_over_the_limit(self) -> None:
+        """They're named where there's nothing else to write."""
+        body = body_of(made({"file:///a": 80, "file:///b": 90}))
+        for is_lenient in False, True:
+            status, said = self.split(body, elements=50, is_lenient=is_lenient)
+            self.assertEqual((status, said.count("\n")), (2, 1))
+            self.assertRegex(said, r"each by itself: file:///a \(80 elements\), file:///b \(90 ")
+
+    def hovers(self, texts: list[str], each: int) -> bytes:
+        """A dump with a hover of each text, so many a document."""
+        elements: list[Element] = [json.loads(META)]
+        vertex, first = {"type": "vertex"}, 2
+        for at in range(0, len(texts), each):
+            own, ranges = first, list[int]()
+            elements.append({"id": own, **vertex, "label": "document", "uri": f"file:///{at:04}"})
+            for line, text in enumerate(texts[at : at + each]):
+                place = {"line": line, "character": 0}
+                ends = {"start": place, "end": {"line": line, "character": 1}}
+                first += 3
+                ranges.append(first)
+                elements.append({"id": first, **vertex, "label": "range", **ends})
+                result = {"contents": f"{at} {line} {text}"}
+                elements.append(
+                    {"id": first + 1, **vertex, "label": "hoverResult", "result": result}
+                )
+                edge = {"id": first + 2, "type": "edge", "label": "textDocument/hover"}
+                elements.append({**edge, "outV": first, "inV": first + 1})
+            first += 3
+            edge = {"id": first, "type": "edge", "label": "contains"}
+            elements.append({**edge, "outV": own, "inVs": ranges})
+            first += 1
+        return body_of(elements)
+
+    def test_hovers(self) -> None:
+        """They count as what is written of them: a part has room for what the server takes, and no
+        part is over that."""
+        most = 60_000
+        rows: list[tuple[str, int, int, int]] = [
+            ("x" * 9_000, 6, 6, 1),
+            ("x" * 9_000, 36, 6, 6),
+            ("x" * 9_000, 36, 1, 7),
+            ('"\\\n' * 1_500, 36, 1, 7),
+            ("\u00e9" * 4_500, 36, 1, 7),
+            ("\u6f22\U0001f600" * 1_300, 36, 1, 7),
+        ]
+        for text, count, each, parts in rows:
+            for is_ascii in True, False:
+                with self.subTest(text[:3], count=count, each=each, is_ascii=is_ascii):
+                    self.out = os.path.join(self.folder, str(len(os.listdir(self.folder))))
+                    body = self.hovers([text] * count, each)
+                    if not is_ascii:
+                        rows_of_body = map(json.loads, body.splitlines())
+                        lines = (json.dumps(row, ensure_ascii=False) for row in rows_of_body)
+                        body = "\n".join(lines).encode() + b"\n"
+                    with mock.patch.object(cuts, "MOST_BODY_BYTES", most):
+                        status, said = self.split(body, name="code")
+                    self.assertEqual(status, 0, said)
+                    sizes = [
+                        os.path.getsize(os.path.join(self.out, name))
+                        for name in os.listdir(self.out)
+                        if name.endswith(".lsif")
+                    ]
+                    self.assertLessEqual(max(sizes), most)
+                    self.assertLessEqual(len(sizes), parts + 2)
+
+    def test_a_document_of_too_many_bytes(self) -> None:
+        """It's said what it has too much of."""
+        with mock.patch.object(cuts, "MOST_BODY_BYTES", 60_000):
+            status, said = self.split(self.hovers(["x" * 9_000] * 7, 7))
+        self.assertEqual(status, 2)
+        self.assertRegex(said, r"each by itself: file:///0000 \(6[0-9]{4} bytes\); --without GLOB")
 
     def test_cuts_are_kept(self) -> None:
         """A document that grows changes its own part alone, and one that comes goes to the part
@@ -277,7 +350,7 @@ class Split(unittest.TestCase):
         ):
             status, said = self.split(body_of(elements))
             self.assertEqual(status, 2)
-            self.assertIn("over referenceResults; --lenient leaves some out", said)
+            self.assertIn("over referenceResults; --lenient of `prepare` leaves some out", said)
             status, said = self.split(body_of(elements), is_lenient=True)
             self.assertEqual(status, 0)
             self.assertRegex(said, "referenceResults too deep: [0-9]+ results have not all places")

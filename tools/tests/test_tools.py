@@ -190,7 +190,7 @@ class Prepare(unittest.TestCase):
             other,
         ]
         cases: list[tuple[list[str], list[str]]] = [
-            ([], one),
+            ([], [other]),
             (["--profile", "1"], one),
             (["--profile", "2"], [other]),
         ]
@@ -580,7 +580,7 @@ class Upload(unittest.TestCase):
             (["--once"], tags, f"tags?key={projects.once_key('tags', io.BytesIO(tags), '1')}"),
             (["--key", "k1"], tags, "tags?key=k1"),
             (["--key", "k1", "--profile", "2"], tags, "tags?key=k1"),
-            (["--key", "k1"], dump, "lsif?key=k1"),
+            (["--key", "k1"], dump, "lsif?key=k1&profile=1"),
             (["--key", "k1", "--profile", "2"], dump, "lsif?key=k1&profile=2"),
         ):
             self.assertEqual(self.uploaded(words, done, body=body), (0, [(url + path, "PUT")], []))

@@ -5,6 +5,7 @@ import contextlib
 import io
 import json
 import os
+import shlex
 import subprocess
 import tempfile
 import unittest
@@ -12,6 +13,7 @@ from contextlib import redirect_stderr, redirect_stdout
 from typing import Callable
 from unittest import mock
 
+from codenav.cli.explain import EXPLAIN
 from codenav.cli.projects import LIST, REMOVE
 from codenav.cli.upload import UPLOAD
 from codenav.client.http import address, found_in, request
@@ -110,7 +112,15 @@ class Uploads(OnServer):
         for text, revision, name, wanted in (
             (DUMP % "A", "HEAD", "A", (0, line)),
             ("", "HEAD", "B", (0, line + differ)),
-            ("{", "HEAD", "A", (1, "")),
+            (
+                "{",
+                "HEAD",
+                "A",
+                (
+                    1,
+                    "codenav upload: codenav explain A 'line 1: L02 not JSON' says what it is to be\n",
+                ),
+            ),
             ("", "HEAD", "A", (2, "codenav upload: A: neither a dump nor a tags file\n")),
             ("", "none", "B", (2, none)),
         ):
@@ -132,6 +142,37 @@ class Uploads(OnServer):
         self.make("A", "--once", "--profile", "2")
         profile = found_in(request(address(self.url, "/projects/app/profile", {})), "profile")
         self.assertEqual(profile, 2)
+
+    def test_the_profile_of_a_dump(self) -> None:
+        """Without one it's 2 where the dump has results of that alone."""
+        result = '{"id":9,"type":"vertex","label":"implementationResult"}\n'
+        rows: list[tuple[str, list[str], int]] = [
+            (DUMP % "x", [], 1),
+            (DUMP % "x" + result, [], 2),
+            (DUMP % "x" + result, ["--profile", "1"], 1),
+            (DUMP % '\\"implementationResult\\"', [], 1),
+        ]
+        for text, words, wanted in rows:
+            path = self.written("P", text)
+            self.assertEqual(called(UPLOAD.main, *words, self.url, "app", path)[0], 0)
+            found = request(address(self.url, "/projects/app/profile", {}))
+            self.assertEqual(found_in(found, "profile"), wanted)
+
+    def test_what_explains_a_refusal(self) -> None:
+        """The call that's said explains it."""
+        rows = [
+            (DUMP.replace('"outV":3', '"outV":9') % "x", "L09"),
+            ("!_TAG_FILE_FORMAT\t1\t//\n", "T08"),
+        ]
+        for text, code in rows:
+            path = self.written("a b", text)
+            status, _, warned = called(UPLOAD.main, self.url, "app", path)
+            self.assertEqual(status, 1)
+            line = warned.removeprefix("codenav upload: ").removesuffix(" says what it is to be\n")
+            words = shlex.split(line)
+            self.assertEqual(words[:3], ["codenav", "explain", path])
+            status, said, _ = called(EXPLAIN.main, *words[2:])
+            self.assertEqual((status, code in said, "should write" in said), (0, True, True))
 
     def test_an_answer_that_was_lost(self) -> None:
         """The server acted, its answer is lost, and somebody else uploads before the call is sent

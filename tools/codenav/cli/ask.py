@@ -6,6 +6,7 @@ import os
 from functools import lru_cache
 from typing import Any, NamedTuple, Optional
 
+from codenav import printed
 from codenav.asking.by_name import found_at, has_dump, has_tags
 from codenav.asking.project import Project, Reply
 from codenav.asking.tags import Names, Tag
@@ -160,7 +161,7 @@ def ask(call: AskCall) -> int:
     settings = settings_by(given, above)
     reply, lines = (answer_names if call.what == "names" else answer_at)(call, settings)
     for line in [json.dumps(reply, sort_keys=True, separators=(",", ":"))] if call.json else lines:
-        print(line)
+        print(printed.lines(line) if call.what == "hover" else printed.line(line))
     return 0 if lines else 1
 
 

@@ -6,6 +6,7 @@ import sys
 from typing import Callable, NoReturn
 
 from codenav.faults import Fault
+from codenav.printed import line
 
 CLOSED_PIPE = 128 + signal.SIGPIPE
 
@@ -51,5 +52,5 @@ def status_of(tool: str, call: Callable[[], int]) -> int:
         status, text = fault.status, str(fault)
     except OSError as fault:
         status, text = 2, text_of(fault)
-    print(f"{tool}: {text}", file=sys.stderr)
+    print(f"{tool}: {line(text)}", file=sys.stderr)
     return status

@@ -7,11 +7,12 @@ from dataclasses import dataclass, field
 from typing import Optional
 
 from codenav.cli.command import Command
-from codenav.dumps.check.explain import explain, fault_of
+from codenav.dumps.check.explain import ACCEPTED, explain, fault_of
 from codenav.dumps.check.why import why
 from codenav.dumps.packed import opened
 from codenav.faults import BadCall
 from codenav.kinds import BY_NAME
+from codenav.printed import line, lines
 from codenav.sets.files import part_file
 from codenav.texts.places import character_at, maps_of
 
@@ -29,7 +30,7 @@ class ExplainCall:
 
 def add_explain(parser: argparse.ArgumentParser) -> None:
     """The words of `explain`."""
-    parser.add_argument("file", metavar="FILE", help="the dump that was checked")
+    parser.add_argument("file", metavar="FILE", help="the dump or the tags file that was checked")
     parser.add_argument(
         "fault",
         metavar="FAULT",
@@ -43,9 +44,12 @@ def run_explain(call: ExplainCall) -> int:
     text = call.fault
     if text is None:
         text = sys.stdin.buffer.readline(MOST_BYTES).decode(errors="replace")
+    if ACCEPTED.fullmatch(text.strip()):
+        print(f"{call.file}: accepted, so there's nothing to explain")
+        return 0
     fault = fault_of(text)
     with opened(call.file) as file:
-        print("\n".join(explain(call.file, file, fault)))
+        print("\n".join(map(line, explain(call.file, file, fault))))
     return 0
 
 
@@ -102,14 +106,15 @@ def run_why(call: WhyCall) -> int:
     path = part_file(call.dump, call.file, maps) if os.path.isdir(call.dump) else call.dump
     with opened(path) as file:
         answered = why(file, path, BY_NAME[call.request], call.file, position, maps)
-    print("\n".join(answered.lines), flush=True)
+    print("\n".join(map(lines, answered.lines)), flush=True)
     return 0 if answered.is_asked else 1
 
 
 EXPLAIN = Command(
     "explain",
     "Explains the fault that `codenav check-lsif` named of a dump: its element, the earlier ones "
-    "that it conflicts with, and what an indexer should have written. Lines count from 1; positions "
+    "that it conflicts with, and what an indexer should have written; or the fault that `check-tags` "
+    "named of a tags file, and what ctags should have written. Lines count from 1; positions "
     "are those of the dump, which count from 0.",
     ExplainCall,
     add_explain,

@@ -9,7 +9,7 @@ from typing import Optional
 
 from codenav.cli.command import Command
 from codenav.cli.show import Shown
-from codenav.dumps.dump import Dump, opened_dump
+from codenav.dumps.dump import Dump, opened_dump, profile_of
 from codenav.dumps.lsif.reading import Source
 from codenav.dumps.prepare.plan import Options
 from codenav.dumps.prepare.prepare import prepare
@@ -36,7 +36,7 @@ class PrepareCall:
     keep_unique: bool = False
     lenient: bool = False
     report: bool = False
-    profile: str = "1"
+    profile: str = ""
     without: list[str] = field(default_factory=list)
     source: Optional[str] = None
     encoding: Optional[str] = None
@@ -108,7 +108,7 @@ def add_prepare(parser: argparse.ArgumentParser) -> None:
     parser.add_argument(
         "--profile",
         choices=["1", "2"],
-        help="how the dump is read, for the report and a set; 1 without it",
+        help="how the dump is read, for the report and a set; without it 2 where it has declarations or implementations",
     )
     group.add_argument("--set", action="store_true", help="make a set of what isn't too large too")
     group.add_argument(
@@ -155,7 +155,7 @@ def as_set(dump: Dump, call: PrepareCall, path: str, shows: Shows) -> SetFiles:
         raise BadCall(f"{call.output}: the set that it becomes is a folder, and this is none")
     options = SplitOptions(
         set_name(call.name or os.path.basename(os.path.abspath(call.output))),
-        call.profile,
+        call.profile or (profile_of(path) if isinstance(dump, Source) else "2"),
         call.revision,
         tuple(call.map),
         call.tags,
@@ -163,6 +163,7 @@ def as_set(dump: Dump, call: PrepareCall, path: str, shows: Shows) -> SetFiles:
         call.lenient,
         call.elements,
         call.jobs,
+        dump.name,
     )
     if isinstance(dump, Source):
         return split(path, options, call.output, shows)
@@ -184,8 +185,9 @@ def made(dump: Dump, call: PrepareCall, path: str, shows: Shows) -> tuple[list[s
             advice = [ADVICE] if outcome.over else []
             return [*outcome.lines(), *advice], outcome.is_whole(call.lenient)
         if isinstance(dump, Source):
-            lines = outcome.lines()
-            is_whole = replace(outcome, over=()).is_whole(call.lenient)
+            within = replace(outcome, over=())
+            lines = (within if call.set else outcome).lines()
+            is_whole = within.is_whole(call.lenient)
     files = as_set(dump, call, path, shows)
     return [*lines, *files.lines()], is_whole and files.reading.is_whole(call.lenient)
 

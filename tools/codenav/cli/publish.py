@@ -3,6 +3,7 @@
 import argparse
 import json
 import os
+import shlex
 import sys
 import tempfile
 from contextlib import contextmanager
@@ -14,7 +15,8 @@ from codenav.cli.options import URL_HELP, add_words, url_in
 from codenav.cli.show import Shown
 from codenav.files import whole_file
 from codenav.index.indexers import INDEXERS
-from codenav.names import shown_name
+from codenav.names import set_name, shown_name
+from codenav.printed import line as printed
 from codenav.publishing.made import How, Made, Refused, Row
 from codenav.publishing.making import Making
 from codenav.publishing.send import Sent, send
@@ -125,12 +127,12 @@ def settings_of(url: str, target: Target, made: Made, overwrites: bool) -> str:
     wanted: dict[str, Any] = {"server": plain(url), "project": target.project}
     if target.servers:
         wanted["servers"] = [plain(server) for server in target.servers]
-    wanted["map"] = {made.where: os.curdir}
+    wanted["map"] = {made.where: made.inside}
     return new_settings(os.path.join(made.folder, FILE), wanted, overwrites)
 
 
 def uploaded(made: Made, sent: Sent, target: Target) -> Iterator[str]:
-    """What was uploaded, and where its documents are."""
+    """What was uploaded, where its documents are, and how it's removed again."""
     for one in sent.accepted:
         of = f"{one.count} tags"
         if one.part == "lsif":
@@ -138,11 +140,30 @@ def uploaded(made: Made, sent: Sent, target: Target) -> Iterator[str]:
         yield f"uploaded {one.project}: {of}"
     if sent.removed:
         yield f"uploaded {target.project}: and removed its set of {sent.removed} parts"
-    if sent.report is not None and made.files is not None:
+    if sent.report is not None:
         where = f" at {target.home}" if target.servers else ""
-        yield f"uploaded {shown_name(made.files.head.name)}: a set{where}, {sent.report.line()}"
+        said = f"a set{where}, {sent.report.line()}, profile {made.profile}"
+        yield f"uploaded {shown_name(set_name(target.project))}: {said}"
+    yield from documents(made)
+    yield f"codenav remove {plain(target.home)} {shown_name(target.project)} removes it again"
+
+
+def not_uploaded(made: Made, target: Target) -> Iterator[str]:
+    """What a call that uploads nothing would upload."""
+    what = [
+        "tags" if one.part == "tags" else f"a dump, profile {one.profile}" for one in made.bodies
+    ]
+    if made.files is not None:
+        what = [f"{len(made.files.head.parts)} parts, in profile {made.profile}"]
+    name, where = shown_name(target.project), plain(target.home)
+    yield f"nothing was uploaded, as --dry-run asks: {name} at {where} would have {' and '.join(what)}"
+
+
+def documents(made: Made) -> Iterator[str]:
+    """Where the documents of an index are, and of which commit it is."""
     if made.bodies[0].part == "lsif":
-        words = map_words(made.where, "FOLDER")
+        folder = os.path.normpath(os.path.join("FOLDER", made.inside))
+        words = shlex.quote(map_words(made.where, folder))
         yield f"documents are below {made.where}: elsewhere ask with --map {words}"
         if made.commit:
             yield f"the index is of revision {made.commit}, which it keeps"
@@ -161,6 +182,7 @@ def table(rows: Sequence[Row]) -> list[str]:
 def as_json(made: Made, sent: Optional[Sent], target: Target) -> str:
     """What was done, for programs; `uploaded` is null where nothing was to be."""
     found: dict[str, Any] = {"project": target.project, "uploaded": None, "set": None}
+    found["profile"] = made.profile or None
     if sent is not None:
         found["uploaded"] = [vars(one) for one in sent.accepted]
         found["set"] = sent.report and vars(sent.report)
@@ -178,16 +200,17 @@ def say(call: PublishCall, made: Made, sent: Sent, target: Target, settings: str
         text = f"publish {shown_name(other)} again: it's joined to {name}, and its surface isn't at {target.home}"
         print(f"{TOOL}: {text}", file=sys.stderr)
     for line in () if call.json else uploaded(made, sent, target):
-        print(line)
+        print(printed(line))
     path = os.path.join(made.folder, FILE)
     if settings:
         with whole_file(path) as file:
             file.write(settings.encode())
         if not call.json:
-            print(f"written {path}")
+            print(printed(f"written {path}"))
     pinned = found_in_file(path).get("revision") if os.path.isfile(path) else None
     if pinned not in (None, made.commit):
-        print(f"{TOOL}: {path}: tools go by its revision {pinned} there", file=sys.stderr)
+        text = f"{TOOL}: {path}: tools go by its revision {pinned} there"
+        print(printed(text), file=sys.stderr)
 
 
 def run_publish(call: PublishCall) -> int:
@@ -212,8 +235,10 @@ def run_publish(call: PublishCall) -> int:
             return 1
     if sent is not None:
         say(call, made, sent, target, settings)
+    for line in not_uploaded(made, target) if sent is None and not call.json else ():
+        print(printed(line))
     for line in [as_json(made, sent, target)] if call.json else table(made.left_out):
-        print(line)
+        print(printed(line))
     return 0
 
 

@@ -5,6 +5,8 @@ import sys
 import time
 from typing import Any, Optional
 
+from codenav import printed
+
 
 class Shown:
     """The progress of a tool (`progress.Shows`). With `is_long` each stage is a line at its end."""
@@ -55,4 +57,4 @@ class Shown:
 
     def warn(self, line: str) -> None:
         """Says a line at once."""
-        print(f"{self.tool}: {line}", file=sys.stderr, flush=True)
+        print(f"{self.tool}: {printed.line(line)}", file=sys.stderr, flush=True)

@@ -2,6 +2,7 @@
 
 import argparse
 import os
+import shlex
 import sys
 from dataclasses import dataclass
 from typing import IO, Optional, Sequence
@@ -10,7 +11,7 @@ from codenav.cli.command import Command
 from codenav.cli.options import URL_HELP, add_retry, add_words
 from codenav.client.http import refusal_of, reply_in
 from codenav.client.projects import fresh_key, once_key
-from codenav.dumps.dump import HEAD_BYTES, is_index
+from codenav.dumps.dump import HEAD_BYTES, is_index, profile_in
 from codenav.dumps.packed import GZIP, ZSTD, opened
 from codenav.faults import BadCall, NoReply
 from codenav.names import key_of, project_of, server_of, shown_name
@@ -50,7 +51,7 @@ def add_upload(parser: argparse.ArgumentParser) -> None:
     parser.add_argument(
         "--profile",
         choices=["1", "2"],
-        help="how a dump is read, 1 without it; 2 has declarations and implementations too",
+        help="how a dump is read; 2 has declarations and implementations too, and is taken without it where the dump has such",
     )
     parser.add_argument(
         "--revision",
@@ -89,7 +90,7 @@ def upload_file(call: UploadCall, server: str, project: str, path: str) -> int:
     name = "standard input" if path == "-" else path
     with opened(path) as file:
         part = part_of(file, name)
-        profile = call.profile if part == "lsif" else None
+        profile = (call.profile or profile_in(file)) if part == "lsif" else None
         key = fresh_key(part) if call.key is None else key_of(call.key)
         if call.once:
             key = once_key(part, file, profile or "1")
@@ -99,6 +100,11 @@ def upload_file(call: UploadCall, server: str, project: str, path: str) -> int:
     print(answer.body.decode(), flush=True)
     for one in over:
         print(f"{TOOL}: {one}: it can't be accepted", file=sys.stderr)
+    reply = reply_in(answer) or {}
+    if answer.status == 422 and "line" in reply and path != "-":
+        fault = f"line {reply['line']}: {refusal_of(answer)}"
+        words = shlex.join(["codenav", "explain", path, fault])
+        print(f"{TOOL}: {words} says what it is to be", file=sys.stderr)
     if answer.status == 503 and not over:
         print(f"{TOOL}: {refusal_of(answer)}", file=sys.stderr)
     return 0 if answer.status == 200 else 1

@@ -4,11 +4,12 @@ from __future__ import annotations
 
 import tempfile
 from contextlib import contextmanager
-from typing import TYPE_CHECKING, BinaryIO, Iterator, Union, cast
+from typing import IO, TYPE_CHECKING, BinaryIO, Iterator, Union, cast
 
 from codenav.dumps.lsif.reading import Source
 from codenav.dumps.packed import at_least, joined, opened, unpacked
 from codenav.faults import BadCall
+from codenav.kinds import KINDS
 
 if TYPE_CHECKING:
     from codenav.dumps.scip.messages import IndexFile
@@ -43,6 +44,20 @@ def is_scip(path: str) -> bool:
     """Whether a file is a SCIP index."""
     with opened(path) as file:
         return is_index(at_least(unpacked(file, path)[0], HEAD_BYTES))
+
+
+def profile_of(path: str) -> str:
+    """The profile in which a prepared dump is read: 2 where it has results of that alone. Of an
+    index it isn't known, so it's 2."""
+    with opened(path) as file:
+        return "2" if is_index(file.read(HEAD_BYTES)) else profile_in(file)
+
+
+def profile_in(file: IO[bytes]) -> str:
+    """The same of a dump in a file."""
+    labels = [f'"{kind.result}"'.encode() for kind in KINDS if not kind.is_of("1")]
+    file.seek(0)
+    return "2" if any(label in line for line in file for label in labels) else "1"
 
 
 @contextmanager

@@ -2,15 +2,19 @@
 
 import os
 import shutil
+import signal
 import subprocess
 import time
-from typing import NamedTuple, Optional
+from contextlib import suppress
+from typing import Iterable, NamedTuple, Optional
 
 from codenav.faults import BadCall
+from codenav.index.tags_file import files_of
 from codenav.progress import Shows
 
 TAIL_LINES = 5
 POLL_SECONDS = 0.1
+END_SECONDS = 5.0
 
 
 class Indexer(NamedTuple):
@@ -68,18 +72,51 @@ def named(name: str) -> Indexer:
     raise BadCall(f"no indexer {name!r} is known; --index takes the line by which one is called")
 
 
-def fitting(folder: str) -> Optional[Indexer]:
-    """The first known indexer of which the checkout has a mark and this machine the program; None
-    where no mark is there."""
-    missing = []
-    for indexer in INDEXERS:
-        if any(os.path.isfile(os.path.join(folder, mark)) for mark in indexer.marks):
-            if shutil.which(indexer.program()):
-                return indexer
-            missing.append(indexer.program())
-    if missing:
-        raise BadCall(f"{folder}: {' or '.join(missing)} would index this, and isn't on the path")
-    return None
+class Choice(NamedTuple):
+    """The indexer of a checkout, None where none fits, and for each language that it leaves what
+    is to be done for it."""
+
+    indexer: Optional[Indexer]
+    left: tuple[str, ...]
+
+
+def marked(names: Iterable[str]) -> dict[Indexer, list[str]]:
+    """The files by which indexers are chosen among the files of a checkout, the uppermost first and
+    without those below another's folder."""
+    found: dict[Indexer, list[str]] = {}
+    for name in sorted(names, key=lambda name: (name.count("/"), name)):
+        for indexer in INDEXERS:
+            if os.path.basename(name) in indexer.marks:
+                above = found.setdefault(indexer, [])
+                if not any(name.startswith(os.path.dirname(one) + "/") for one in above):
+                    above += [name] if not above or "/" in above[0] else []
+    return found
+
+
+def fitting(folder: str) -> Choice:
+    """The first known indexer that has a file at the top of a checkout and whose program this machine
+    has. Raises BadCall where there are such files, and the program of none."""
+    found = marked(map(os.fsdecode, files_of(folder)))
+    at_top = [one for one in INDEXERS if one in found and "/" not in found[one][0]]
+    at_hand = [one for one in at_top if shutil.which(one.program())]
+    if at_top and not at_hand:
+        programs = " or ".join(one.program() for one in at_top)
+        raise BadCall(
+            f"{folder}: {programs} would index this, and isn't on the path; --no-index uploads tags alone"
+        )
+    indexer = at_hand[0] if at_hand else None
+    return Choice(indexer, tuple(left(one, found[one]) for one in found if one != indexer))
+
+
+def left(indexer: Indexer, marks: list[str]) -> str:
+    """What is to be done for a language that is left."""
+    where, more = os.path.dirname(marks[0]), f" and {len(marks) - 1} more" if marks[1:] else ""
+    what = f"{os.fsencode(marks[0]).decode(errors='replace')}{more} is for {indexer.name}"
+    if where:
+        return f"{what}: publish its folder as a project of its own"
+    if shutil.which(indexer.program()):
+        return f"{what}: publish it as another project by --indexer {indexer.name}"
+    return f"{what}, which isn't on the path"
 
 
 def tail_of(path: str) -> str:
@@ -89,12 +126,30 @@ def tail_of(path: str) -> str:
     return " | ".join(lines[-TAIL_LINES:])
 
 
+def end_group(process: "subprocess.Popen[bytes]") -> None:
+    """Ends what is left of a process and of all that it started in its group: by SIGTERM, and after
+    some seconds by SIGKILL."""
+    with suppress(ProcessLookupError):
+        os.killpg(process.pid, signal.SIGTERM)
+        end = time.monotonic() + END_SECONDS
+        while time.monotonic() < end:
+            process.poll()
+            os.killpg(process.pid, 0)
+            time.sleep(POLL_SECONDS)
+        os.killpg(process.pid, signal.SIGKILL)
+    process.wait()
+
+
 def indexed(line: str, folder: str, project: str, work: str, shows: Shows) -> str:
     """Calls an indexer in a checkout by a line of the shell; answers the file with what it wrote.
-    Its own words stay in `index.log`."""
+    Its own words stay in `index.log`. No process that it started in its group is left, however the
+    call ends."""
+    work = os.path.abspath(work)
     out, printed, log = (
         os.path.join(work, name) for name in ("index.out", "index.raw", "index.log")
     )
+    with suppress(FileNotFoundError):
+        os.unlink(out)
     with open(printed, "wb") as standard, open(log, "wb") as said:
         run = subprocess.Popen(
             line,
@@ -104,15 +159,14 @@ def indexed(line: str, folder: str, project: str, work: str, shows: Shows) -> st
             stdout=standard,
             stderr=said,
             env={**os.environ, "OUT": out, "PROJECT": project},
+            process_group=0,
         )
         try:
             while run.poll() is None:
                 time.sleep(POLL_SECONDS)
                 shows.at(os.path.getsize(out if os.path.exists(out) else printed))
         finally:
-            if run.poll() is None:
-                run.terminate()
-                run.wait()
+            end_group(run)
     if run.returncode != 0:
         said_last = tail_of(log)
         raise BadCall(

@@ -74,7 +74,7 @@ def tagged(folder: str, path: str, is_cut: bool = False) -> tuple[int, Counter[s
     The list of the files stands beside it meanwhile. They're named from `./` on, which no option
     begins with; and no options of the checkout's count.
     """
-    names = f"{path}.files"
+    names = os.path.abspath(f"{path}.files")
     with open(names, "wb") as listed:
         listed.writelines(b"./" + name + b"\n" for name in files_of(folder))
     count, written, left_out = 0, 0, Counter[str]()

@@ -54,13 +54,16 @@ class How:
 
 class Made(NamedTuple):
     """What was made of a checkout in a folder: the bodies, a dump first; the set that they are,
-    where it's one; the address that the documents are below, the commit that the index is of, and
-    what was left out."""
+    where it's one; how a dump is read; the address that the documents are below, and the folder of
+    the checkout that is there, from its top on; the commit that the index is of, and what was left
+    out."""
 
     folder: str
     bodies: tuple[Body, ...]
     files: Optional[SetFiles]
+    profile: str
     where: str
+    inside: str
     commit: str
     left_out: tuple[Row, ...]
 

@@ -7,20 +7,19 @@ from __future__ import annotations
 import os
 import shutil
 from contextlib import suppress
-from typing import TYPE_CHECKING, Iterator, Optional, Union
+from typing import TYPE_CHECKING, Iterator, Optional, Sequence, Union
 
-from codenav.addresses import folder_address
+from codenav.addresses import below, folder_address
 from codenav.dumps.check import explain
-from codenav.dumps.dump import is_scip, opened_dump
+from codenav.dumps.dump import is_scip, opened_dump, profile_of
 from codenav.dumps.lsif.reading import Source
 from codenav.dumps.prepare.plan import Options
 from codenav.dumps.prepare.prepare import prepare
 from codenav.dumps.scip.options import ScipOptions
-from codenav.faults import BadCall, NotADump
-from codenav.index.indexers import fitting, indexed, named
+from codenav.faults import BadCall, NotADump, Unfit
+from codenav.index.indexers import Choice, fitting, indexed, named
 from codenav.index.tags_file import LEFT_OUT as TAGS_LEFT_OUT
 from codenav.index.tags_file import tagged
-from codenav.kinds import KINDS
 from codenav.names import set_name
 from codenav.outcome import MENDED, Outcome
 from codenav.program import Program
@@ -34,7 +33,7 @@ from codenav.sets.publish.store import Store
 from codenav.sets.split.split import SetFiles, SplitOptions, split
 from codenav.sets.surface.made import keep_surface, made_surface, surface_file
 from codenav.texts.checked_out import indexed_at, still_indexed_at
-from codenav.texts.places import map_words, uri_of
+from codenav.texts.places import map_words, plain, uri_of
 
 if TYPE_CHECKING:
     from codenav.dumps.scip.messages import IndexFile
@@ -45,14 +44,18 @@ MISSING = {
 }
 
 
-def profile_of(path: str) -> str:
-    """The profile in which a prepared dump is read: 2 where it has results of that alone. Of an
-    index that is split itself it isn't known."""
-    if is_scip(path):
-        return "2"
-    labels = [f'"{kind.result}"'.encode() for kind in KINDS if not kind.is_of("1")]
-    with open(path, "rb") as dump:
-        return "2" if any(label in line for line in dump for label in labels) else "1"
+def folder_inside(folder: str, where: str, uris: Sequence[str]) -> str:
+    """The folder of a checkout, from its top on, that the address which documents are below stands
+    for: the top, or one that has the last names of the address, where more of the documents are
+    files below it."""
+    paths = [plain(inside) for inside in (below(where, uri) for uri in uris) if inside is not None]
+    names = plain(where).rstrip("/").split("/")[3:]
+    found = [os.curdir, *(os.path.join(*names[-count:]) for count in range(1, len(names) + 1))]
+
+    def files_in(inside: str) -> int:
+        return sum(os.path.isfile(os.path.join(folder, inside, path)) for path in paths)
+
+    return max((one for one in found if os.path.isdir(os.path.join(folder, one))), key=files_in)
 
 
 def refusal(body: Body, said: str) -> Refused:
@@ -72,6 +75,7 @@ class Making:
         self.is_set, self.profile = how.set or target.is_set, how.profile
         self.where, self.outcome, self.left_out = uri_of(folder, []), Outcome(), list[Row]()
         self.recorded: Optional[Prepared] = None
+        self.inside = os.curdir
         self.commit, fault = indexed_at(folder, how.revision)
         self.looks_again = not fault
         if fault:
@@ -84,7 +88,7 @@ class Making:
             dump = self.prepared_dump(raw, work)
             self.profile = self.profile or profile_of(dump)
             bodies.append(Body(self.target.project, "lsif", dump, self.profile))
-        elif not self.how.no_index:
+        elif not self.how.no_index and not self.left_out:
             self.left_out.append(Row("dump", None, MISSING["lsif"]))
         tags = "" if self.how.no_tags else self.tags(work, bool(raw) or self.how.no_index)
         if tags:
@@ -93,7 +97,8 @@ class Making:
             self.look_again()
         if not bodies:
             nothing = "no indexer is known for what is here, and there are no tags"
-            raise BadCall(f"{self.folder}: {nothing}")
+            whys = [row.why for row in self.left_out if row.why not in MISSING.values()]
+            raise BadCall(f"{self.folder}: {'; '.join([nothing, *whys])}")
         if self.is_set:
             if not raw:
                 raise BadCall("a set is made of a dump: there is none")
@@ -102,7 +107,8 @@ class Making:
             self.outcome = files.reading if is_scip(dump) else self.outcome
         self.check(bodies)
         rows = (*rows_of(self.outcome, self.profile), *self.left_out)
-        return Made(self.folder, tuple(bodies), files, self.where, self.commit, rows)
+        places = self.where, self.inside, self.commit
+        return Made(self.folder, tuple(bodies), files, self.profile, *places, rows)
 
     def raw_dump(self, work: str) -> str:
         """The file with the dump or the index of the checkout, which was given or is written now;
@@ -111,7 +117,8 @@ class Making:
             return "" if self.how.no_index else self.how.dump
         line = self.how.index
         if not line:
-            indexer = named(self.how.indexer) if self.how.indexer else fitting(self.folder)
+            indexer, left = self.indexer()
+            self.left_out += [Row("dump", None, why) for why in left]
             if indexer is None:
                 return ""
             line = indexer.line
@@ -119,6 +126,10 @@ class Making:
         path = indexed(line, self.folder, self.target.project, work, self.shows)
         self.shows.end(f"{os.path.getsize(path)} bytes")
         return path
+
+    def indexer(self) -> Choice:
+        """The indexer that is called, and what's said of languages that it leaves."""
+        return Choice(named(self.how.indexer), ()) if self.how.indexer else fitting(self.folder)
 
     def prepared_dump(self, raw: str, work: str) -> str:
         """The file of the dump that is uploaded, which is a set's where it's too large for one
@@ -144,9 +155,11 @@ class Making:
         """Writes the dump that the server takes of a dump or an index."""
         with opened_dump(raw) as source:
             if isinstance(source, Source):
-                profile = self.profile or "2"
                 options = Options(
-                    strip=True, without=tuple(self.how.without), reports=True, profile=profile
+                    strip=True,
+                    without=tuple(self.how.without),
+                    reports=True,
+                    profile=self.profile,
                 )
                 outcome = prepare(source, out, options, self.shows).outcome
             else:
@@ -172,6 +185,7 @@ class Making:
         """
         dump = Prepared(path)
         self.where = dump.root or self.where
+        self.inside = folder_inside(self.folder, self.where, dump.documents)
         if dump.is_recorded:
             own, self.looks_again = dump.record.revision if dump.record else "", False
             if self.how.revision and own != self.commit:
@@ -213,15 +227,25 @@ class Making:
     def split(self, dump: str, tags: str, folder: str) -> SetFiles:
         """Splits a dump or an index and the tags into the parts of a set, which keeps the cuts of
         the set on the server. Raises Refused."""
-        name, maps = set_name(self.target.project), (map_words(self.where, self.folder),)
+        name, maps = set_name(self.target.project), (
+            map_words(self.where, os.path.join(self.folder, self.inside)),
+        )
         if not self.how.dry_run:
             fetch_cuts(Store(self.target.home), name, folder)
-        options = SplitOptions(name, self.profile, self.commit, maps, tags, self.folder)
+        options = SplitOptions(
+            name,
+            self.profile,
+            self.commit,
+            maps,
+            tags,
+            self.folder,
+            shown=f"the dump of {self.folder}",
+        )
         with opened_dump(dump) as source:
             given: Union[str, IndexFile] = dump if isinstance(source, Source) else source
             try:
                 return split(given, options, folder, self.shows, self.of_index())
-            except (BadCall, NotADump) as fault:
+            except Unfit as fault:
                 raise Refused(str(fault)) from None
 
     def parts(self, files: SetFiles) -> Iterator[Body]:

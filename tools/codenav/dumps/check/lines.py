@@ -8,6 +8,7 @@ from typing import Any, BinaryIO, Iterator, Optional, Union
 from codenav.dumps.lsif.elements import Element, Id, Span, element_of, is_id, span_of
 from codenav.dumps.lsif.reading import MOST_ELEMENT_BYTES
 from codenav.faults import NotADump
+from codenav.printed import line as printed
 
 PIECE = 1 << 20
 MOST_SHOWN = 240
@@ -72,8 +73,7 @@ class Dump:
         """A line as it's printed: a long one is cut."""
         body = self.body(line)
         size = max(self.begins[line] - self.begins[line - 1] - 1, len(body))
-        text = body[: MOST_SHOWN * 4].decode(errors="replace").strip()
-        text = "".join(character if character.isprintable() else "\ufffd" for character in text)
+        text = printed(body[: MOST_SHOWN * 4].decode(errors="replace").strip())
         if len(text) > MOST_SHOWN or size > MOST_SHOWN * 4:
             text = f"{text[:MOST_SHOWN]} .. ({size} bytes)"
         return f"{self.name}:{line}: {text}"

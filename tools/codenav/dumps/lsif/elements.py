@@ -44,11 +44,15 @@ def shard_of(item: Element) -> Any:
 
 
 def targets_of(edge: Element) -> list[Any]:
-    """What an edge leads to, as it says: the members of `inVs`, or `inV` alone."""
-    several = edge.get("inVs")
-    if isinstance(several, list):
-        return several if edge.get("inV") is None else [edge["inV"], *several]
-    return [edge.get("inV")]
+    """What an edge leads to, as it says: the members of `inVs`, or `inV` alone; nothing where it has
+    neither."""
+    one, several = edge.get("inV"), edge.get("inVs")
+    return [*([] if one is None else [one]), *(several if isinstance(several, list) else [])]
+
+
+def leads_nowhere(edge: Element) -> bool:
+    """Whether an edge has no target, nor a list that may be empty."""
+    return edge.get("inV") is None and not isinstance(edge.get("inVs"), list)
 
 
 def check_id(element: Element, place: str) -> None:

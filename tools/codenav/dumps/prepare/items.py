@@ -76,7 +76,8 @@ class Items:
             if given in ROLES[1:]:
                 return given
             if given is None or given == "declarations":
-                self.notes.mend(f"item of a referenceResult with the property {given}", line)
+                of = "without a property" if given is None else f"with the property {given}"
+                self.notes.mend(f"item of a referenceResult {of}", line)
                 return "references" if given is None else "definitions"
         elif kind in LISTED:
             if given is None or (given, kind) == ("definitions", DEFINITION):
@@ -88,7 +89,8 @@ class Items:
         else:
             self.notes.leave_out("`item` edge out of a vertex that is no result", f"line {line}")
             return REFUSED
-        self.notes.mend(f"item with the property {str(given)[:40]}, dropped", line)
+        of = "without a property" if given is None else f"with the property {str(given)[:40]}"
+        self.notes.mend(f"item {of}, dropped", line)
         return REFUSED
 
     def is_fitting(self, row: Row, role: Optional[str], place: int) -> bool:

@@ -46,7 +46,7 @@ class Options:
     source: Optional[str] = None
     root: Optional[str] = None
     reports: bool = False
-    profile: str = "1"
+    profile: str = ""
 
 
 class Plan:

@@ -2,6 +2,8 @@
 were indexed."""
 
 import os
+from base64 import b64decode
+from typing import Any, Optional
 from urllib.parse import unquote_to_bytes
 
 from codenav.addresses import below, folder_address
@@ -14,23 +16,26 @@ from codenav.texts.decoded import body_of
 
 
 def convert_positions(plan: Plan, options: Options) -> None:
-    """Converts the places of all ranges, where they aren't UTF-16 code units; raises NotADump where
-    the files aren't known. It needs `contain`, and `leave_out_documents`, whose files aren't
-    read."""
+    """Converts the places of all ranges, where they aren't UTF-16 code units, by the texts that the
+    documents have within them, else by the files; raises NotADump where these aren't known. It needs
+    `contain`, and `leave_out_documents`, whose files aren't read."""
     survey, source = plan.survey, options.source
     encoding = ENCODINGS[survey.encoding]
     if encoding == UTF_16:
         return
-    if source is None:
-        raise NotADump(
-            f"{survey.name}: its positions count {COUNTED[encoding]} ({survey.encoding}): give --source, the folder that was indexed"
-        )
     kept = (n for n in range(plan.count) if plan.kinds[n] == RANGE and plan.state[n] == KEPT)
     read = unread = 0
     for home, ranges in by_home(kept, plan.home).items():
-        path = path_of(plan, survey.uris[home], source)
+        body, path = body_in(survey.texts.get(home)), survey.uris[home]
+        if body is None and source is None:
+            raise NotADump(
+                f"{survey.name}: its positions count {COUNTED[encoding]} ({survey.encoding}): give --source, the folder that was indexed"
+            )
         try:
-            columns = Columns(encoding, body_of(path))
+            if body is None and source is not None:
+                path = path_of(plan, path, source)
+                body = body_of(path)
+            columns = Columns(encoding, body or b"")
         except BadCall:
             plan.notes.leave_out("document whose file can't be read", path)
             unread += 1
@@ -42,6 +47,19 @@ def convert_positions(plan: Plan, options: Options) -> None:
             convert_range(plan, own, columns)
     if unread and not read:
         raise NotADump(f"{survey.name}: none of {unread} documents can be read below {source}")
+
+
+def body_in(contents: Any) -> Optional[bytes]:
+    """The text that a document has within it, in base64 as the specification says or plain; None
+    where there is none."""
+    if not isinstance(contents, str):
+        return None
+    try:
+        body = b64decode(contents, validate=True)
+        body.decode()
+        return body
+    except ValueError:
+        return contents.encode(errors="surrogatepass")
 
 
 def path_of(plan: Plan, uri: str, source: str) -> str:

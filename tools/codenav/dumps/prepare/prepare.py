@@ -111,6 +111,12 @@ def merged(plan: Plan) -> Iterator[Note]:
             yield Note(MERGED, f"{place}: {ranges}")
 
 
+def profile_of(survey: Survey) -> str:
+    """The profile in which a dump is read: 2 where it has results of that alone."""
+    results = {kind.result for kind in KINDS if not kind.is_of("1")}
+    return "2" if any(label in results for _, label in survey.labels) else "1"
+
+
 def without_effect(survey: Survey, profile: str) -> Iterator[Note]:
     """Which labels have no effect in a profile."""
     asked = [kind for kind in KINDS if kind.is_of(profile)]
@@ -130,7 +136,8 @@ def prepare(source: Source, out_path: str, options: Options, shows: Shows) -> Pr
     plan = Plan(surveyed(source, options, notes))
     for decide in PASSES:
         decide(plan, options)
-    reader = Reader(options.profile, Graph()) if options.reports else None
+    profile = options.profile or profile_of(plan.survey)
+    reader = Reader(profile, Graph()) if options.reports else None
     source.watch = lambda read: shows.at(source.size + read)
     with whole_file(out_path) as out:
         writer = written(source, out, plan, reader)
@@ -146,7 +153,7 @@ def prepare(source: Source, out_path: str, options: Options, shows: Shows) -> Pr
         reader.forget()
         tallies = rows.tallies(reader.graph)
         over += rows.excesses(tallies)
-        said += [rows.note(tallies), *merged(plan), *without_effect(plan.survey, options.profile)]
+        said += [rows.note(tallies), *merged(plan), *without_effect(plan.survey, profile)]
     outcome = Outcome(summary(plan, counts), counts, tuple(said), tuple(over))
     shows.end(outcome.said)
     return Prepared(out_path, outcome)

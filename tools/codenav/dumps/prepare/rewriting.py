@@ -8,7 +8,7 @@ ends the call.
 
 from typing import Callable, Iterator, Optional
 
-from codenav.dumps.lsif.elements import Element, Row, targets_of
+from codenav.dumps.lsif.elements import Element, Row, leads_nowhere, targets_of
 from codenav.dumps.lsif.json_values import text_of
 from codenav.dumps.lsif.writer import LineWriter
 from codenav.dumps.prepare.items import Items
@@ -89,6 +89,8 @@ class Rewriting:
     def edge(self, row: Row) -> None:
         """Writes an edge, mended."""
         label = row.element["label"]
+        if leads_nowhere(row.element):
+            return
         if label == "item":
             self.items.item(row)
         elif label == "contains":

@@ -12,7 +12,16 @@ from itertools import pairwise
 from typing import Any, Optional
 
 from codenav.addresses import folder_address
-from codenav.dumps.lsif.elements import Element, Id, Row, is_id, shard_of, span_of, targets_of
+from codenav.dumps.lsif.elements import (
+    Element,
+    Id,
+    Row,
+    is_id,
+    leads_nowhere,
+    shard_of,
+    span_of,
+    targets_of,
+)
 from codenav.dumps.lsif.json_values import is_whole, text_of
 from codenav.dumps.prepare.labels import (
     DEFINITION,
@@ -58,6 +67,7 @@ class Survey:
     names: dict[int, bytes] = field(default_factory=dict)
     packages: dict[int, bytes] = field(default_factory=dict)
     halved: set[int] = field(default_factory=set)
+    texts: dict[int, Any] = field(default_factory=dict)
     edges: dict[str, Pairs] = field(
         default_factory=lambda: {label: Pairs() for label in ("contains", *SINGLE, *MANY, "other")}
     )
@@ -119,6 +129,8 @@ class Survey:
                 self.dropped.add(number)
         else:
             size = len(row.text if row.text is not None else text_of(row.element))
+            if kind == DOCUMENT and self.encoding != "utf-16":
+                self.texts[number] = row.element.get("contents")
             if kind == DOCUMENT and is_path(row.element.get("uri")):
                 self.paths.append((Row(line, None, without_text(row.element)), number, size))
             else:
@@ -210,6 +222,9 @@ class Survey:
 
     def edge(self, line: int, label: str, element: Element) -> None:
         """Takes an edge."""
+        if leads_nowhere(element):
+            self.notes.mend("edge without a target, dropped", line)
+            return
         own = element.get("id")
         if type(own) is int:
             self.greatest = max(self.greatest, own)

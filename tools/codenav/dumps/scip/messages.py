@@ -18,7 +18,8 @@ if TYPE_CHECKING:
 Piece = tuple[int, int]
 Read = TypeVar("Read", bound="Message")
 
-BYTES = 2
+VARINT, BYTES = 0, 2
+FIXED = {1: 8, 5: 4}
 METADATA_FIELD, DOCUMENT_FIELD, EXTERNAL_FIELD = 1, 2, 3
 HEAD_BYTES = 20
 
@@ -39,20 +40,25 @@ def varint(body: bytes, at: int) -> tuple[int, int]:
 
 
 def messages(file: BinaryIO, name: str) -> Iterator[tuple[int, Piece]]:
-    """The number of each field of an index, with where its message begins and how many bytes it
-    has."""
+    """The number of each field of an index that is a message, with where that begins and how many
+    bytes it has. Fields that are numbers, of which the schema has none, are passed over."""
     size, at = file.seek(0, 2), 0
     while at < size:
         file.seek(at)
         head = file.read(HEAD_BYTES)
         try:
             tag, begin = varint(head, 0)
-            length, begin = varint(head, begin)
+            length, form = FIXED.get(tag & 7, 0), tag & 7
+            if form in (VARINT, BYTES):
+                number, begin = varint(head, begin)
+                length = number if form == BYTES else 0
         except (IndexError, ValueError):
             raise NotADump(f"{name}: no SCIP index, or cut off, at byte {at}") from None
-        if tag & 7 != BYTES or at + begin + length > size:
+        known = form in (VARINT, BYTES, *FIXED) and tag >> 3
+        if not known or at + begin + length > size:
             raise NotADump(f"{name}: no SCIP index, or cut off, at byte {at}")
-        yield tag >> 3, (at + begin, length)
+        if form == BYTES:
+            yield tag >> 3, (at + begin, length)
         at += begin + length
 
 

@@ -50,6 +50,7 @@ class Graph:
     request_of: array[int] = field(default_factory=lambda: array("b"))
     hover_at: array[int] = field(default_factory=lambda: array("q"))
     hover_bytes: array[int] = field(default_factory=lambda: array("i"))
+    hover_sizes: array[int] = field(default_factory=lambda: array("i"))
     items: Numbers = field(default_factory=lambda: array("q"))
     leads: dict[int, list[int]] = field(default_factory=dict)
     monikers: list[tuple[str, str, str]] = field(default_factory=list)

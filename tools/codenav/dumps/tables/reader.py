@@ -127,6 +127,7 @@ class Reader:
             graph.request_of.append(request)
             graph.hover_at.append(NONE)
             graph.hover_bytes.append(0)
+            graph.hover_sizes.append(0)
             return (len(graph.request_of) - 1) * KINDS + RESULT
 
         return take
@@ -136,8 +137,10 @@ class Reader:
         result = element["result"]
         if not isinstance(result, dict) or "contents" not in result:
             raise Faulty("a hover without contents (L07)")
-        text = json.dumps(result["contents"], sort_keys=True)
-        digest = hashlib.blake2b(text.encode(), digest_size=16).digest()
+        text = json.dumps(
+            result["contents"], sort_keys=True, ensure_ascii=False, separators=(",", ":")
+        ).encode("utf-8", "surrogatepass")
+        digest = hashlib.blake2b(text, digest_size=16).digest()
         self.graph.hovers += 1
         known = self.hovers.get(digest)
         if known is None:
@@ -146,6 +149,7 @@ class Reader:
             graph.request_of.append(HOVER)
             graph.hover_at.append(self.at)
             graph.hover_bytes.append(self.bytes)
+            graph.hover_sizes.append(len(text))
         return known
 
     def moniker(self, own: Id, element: Element) -> int:

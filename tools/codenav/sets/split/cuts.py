@@ -40,11 +40,21 @@ class Size:
         """Whether the server takes the part, where a dump may have so many elements."""
         return self.elements <= most and self.bytes <= MOST_BODY_BYTES and self.rows <= MOST_ROWS
 
+    def share(self, most: int) -> float:
+        """How full the part is, as a share of the limit that it's nearest to."""
+        return max(self.elements / most, self.bytes / MOST_BODY_BYTES, self.rows / MOST_ROWS)
+
+    def said(self, most: int) -> str:
+        """What it has more of than the server takes."""
+        if self.elements > most:
+            return f"{self.elements} elements"
+        return f"{self.bytes} bytes" if self.bytes > MOST_BODY_BYTES else f"{self.rows} rows"
+
 
 class TooLarge(Exception):
-    """Documents that are over the limits by themselves, each with its elements."""
+    """Documents that are over the limits by themselves, each with what it has too much of."""
 
-    def __init__(self, documents: list[tuple[str, int]]) -> None:
+    def __init__(self, documents: list[tuple[str, str]]) -> None:
         super().__init__(documents)
         self.documents = documents
 
@@ -69,7 +79,7 @@ class Weights:
         for request, result in enumerate(flat.firsts[firsts]):
             if result != NONE:
                 elements += 2 if request == HOVER else 4
-                size += flat.hover_bytes[result]
+                size += flat.hover_sizes[result]
         return elements, size
 
     def growth(self, first: int, last: int, most: int, full: float) -> list[float]:
@@ -165,7 +175,7 @@ def sizes_of(cut: Cut) -> list[Size]:
 def refuse_large(flat: Flat, most: int) -> None:
     """Raises TooLarge where documents have more ranges than a part may have elements."""
     counts = [(uri, flat.first[at + 1] - flat.first[at]) for at, uri in enumerate(flat.uris)]
-    large = [(uri, count) for uri, count in counts if count > most]
+    large = [(uri, f"{count} elements") for uri, count in counts if count > most]
     if large:
         raise TooLarge(large)
 
@@ -173,14 +183,14 @@ def refuse_large(flat: Flat, most: int) -> None:
 def joined(cuts: list[int], sizes: Sequence[Size], most: int) -> list[int]:
     """The cuts without some between neighbours that have room for each other, where parts are less
     than half full on average."""
-    elements = [size.elements for size in sizes]
+    shares = [size.share(most) for size in sizes]
     cuts = list(cuts)
-    while len(elements) > 1 and sum(elements) < HALF * most * len(elements):
-        together = [one + other for one, other in zip(elements, elements[1:])]
+    while len(shares) > 1 and sum(shares) < HALF * len(shares):
+        together = [one + other for one, other in zip(shares, shares[1:])]
         least = min(range(len(together)), key=lambda at: together[at])
-        if together[least] > JOINED * most:
+        if together[least] > JOINED:
             break
-        elements[least : least + 2] = [together[least]]
+        shares[least : least + 2] = [together[least]]
         del cuts[least + 1]
     return cuts
 
@@ -196,7 +206,7 @@ def split_over(cut: Cut, sizes: Sequence[Size], weights: Weights, most: int) -> 
         if last - first > 1:
             cuts.insert(part + 1, halved(weights, first, last, most))
         else:
-            alone.append((cut.flat.uris[first], sizes[part].elements))
+            alone.append((cut.flat.uris[first], sizes[part].said(most)))
     if alone:
         raise TooLarge(alone[::-1])
     return cuts

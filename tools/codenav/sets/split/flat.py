@@ -39,6 +39,7 @@ class Flat:
     is_place: Numbers
     hover_at: array[int]
     hover_bytes: array[int]
+    hover_sizes: array[int]
     keys: list[Key]
     first: array[int] = field(default_factory=lambda: array("i", [0]))
     first_place: array[int] = field(default_factory=lambda: array("i"))

@@ -112,6 +112,7 @@ def flattened(graph: Graph, without: frozenset[str] = frozenset(), most: int = M
         is_place=is_place,
         hover_at=graph.hover_at,
         hover_bytes=graph.hover_bytes,
+        hover_sizes=graph.hover_sizes,
         keys=keys,
     )
     chains, found = Chains(graph, flat, key_of), Sorted()

@@ -30,6 +30,7 @@ class Tables(Protocol):
     end: Numbers
     hover_at: array[int]
     hover_bytes: array[int]
+    hover_sizes: array[int]
 
 
 class Counter:
@@ -75,7 +76,7 @@ class Counter:
     def hover(self, result: int) -> int:
         """A hover; answers its id."""
         self.count += 1
-        self.bytes += ELEMENT_BYTES + 6 * self.flat.hover_bytes[result]
+        self.bytes += ELEMENT_BYTES + self.flat.hover_sizes[result]
         return self.count
 
     def package(self, package: Package) -> int:

@@ -19,7 +19,7 @@ from typing import IO, TYPE_CHECKING, Callable, Iterator, NamedTuple, Optional, 
 from codenav.dumps.scip.options import ScipOptions
 from codenav.dumps.tables.graph import ASKED, Graph
 from codenav.dumps.tables.reader import read_graph
-from codenav.faults import BadCall
+from codenav.faults import BadCall, Unfit
 from codenav.limits import MOST_ELEMENTS
 from codenav.outcome import Outcome
 from codenav.progress import Shows
@@ -36,12 +36,15 @@ if TYPE_CHECKING:
     from codenav.dumps.scip.messages import IndexFile
 
 
+MOST_NAMED = 10
+
+
 @dataclass(frozen=True)
 class SplitOptions:
     """How a dump is split: `name` is the set's on the server. `tags` is a tags file that is cut as
     the dump is, and was made in `tags_folder`; `maps` are texts `URI=FOLDER`. A part has so many
     `elements` at most, and so many `jobs` write parts side by side, for 0 as many as there are
-    processors that may be used. With `is_lenient` what can't be had is left out: documents that are
+    processors that may be used; `shown` is what a dump is called in messages, in place of its path. With `is_lenient` what can't be had is left out: documents that are
     over the limits by themselves, and places over too many referenceResults."""
 
     name: str
@@ -53,12 +56,13 @@ class SplitOptions:
     is_lenient: bool = False
     elements: int = MOST_ELEMENTS
     jobs: int = 0
+    shown: str = ""
 
 
 class SetFiles(NamedTuple):
     """A set that was written into a folder: what its manifest says; how many elements and keys the
     dump has, and how many of the keys are hidden; how many results haven't all places; the
-    documents that were left out, with their elements; how many tags were too many for their parts;
+    documents that were left out, with what they have too much of; how many tags were too many for their parts;
     and what is said of the reading of an index."""
 
     folder: str
@@ -67,7 +71,7 @@ class SetFiles(NamedTuple):
     keys: int
     hidden: int
     cut_short: int
-    left_out: tuple[tuple[str, int], ...]
+    left_out: tuple[tuple[str, str], ...]
     tags_left_out: int
     reading: Outcome
 
@@ -82,7 +86,7 @@ class SetFiles(NamedTuple):
     def lines(self) -> list[str]:
         """What is said of it."""
         lines = self.reading.lines()
-        lines += [f"left out: {uri}, {count} elements" for uri, count in self.left_out]
+        lines += [f"left out: {uri}, {size}" for uri, size in self.left_out]
         if self.tags_left_out:
             lines.append(f"tags left out: {self.tags_left_out}, which are too many for their parts")
         lines.append(self.said())
@@ -102,12 +106,12 @@ class Given(NamedTuple):
 
 class Planned(NamedTuple):
     """A cut of what is split, its elements, what came of its reading, and the documents that were
-    left out with their elements."""
+    left out with what they have too much of."""
 
     cut: Cut
     elements: int
     reading: Outcome
-    left_out: list[tuple[str, int]]
+    left_out: list[tuple[str, str]]
 
 
 @contextmanager
@@ -124,12 +128,13 @@ def uncollected() -> Iterator[None]:
 
 def of_dump(path: str, options: SplitOptions, shows: Shows) -> Given:
     """What is split of a prepared dump."""
+    name = options.shown or path
 
     def read() -> tuple[Graph, Outcome]:
         with open(path, "rb") as source:
-            return read_graph(source, path, options.profile, shows), Outcome()
+            return read_graph(source, name, options.profile, shows), Outcome()
 
-    return Given(path, read, path)
+    return Given(name, read, path)
 
 
 def of_index(
@@ -148,7 +153,7 @@ def of_index(
 
 def plan_of(given: Given, options: SplitOptions, before: Optional[Sequence[str]]) -> Planned:
     """The cut of what is split; cuts before these documents are kept while the parts fit."""
-    left_out: list[tuple[str, int]] = []
+    left_out: list[tuple[str, str]] = []
     while True:
         graph, reading = given.read()
         elements = graph.elements
@@ -156,20 +161,28 @@ def plan_of(given: Given, options: SplitOptions, before: Optional[Sequence[str]]
         del graph
         if flat.cut_short and not options.is_lenient:
             text = f"the places of {flat.cut_short} results are too many over referenceResults"
-            raise BadCall(f"{text}; --lenient leaves some out")
+            raise Unfit(f"{text}; --lenient of `prepare` leaves some out")
         if not flat.uris:
+            if left_out:
+                raise Unfit(too_large(left_out))
             raise BadCall(f"{given.name}: no document to write")
         try:
             shared = Shared(flat, ASKED[options.profile])
             cut, _ = planned(shared, options.name, before, options.elements)
-            return Planned(cut, elements, reading, left_out)
         except TooLarge as fault:
-            if not options.is_lenient:
-                uri, count = fault.documents[0]
-                raise BadCall(
-                    f"{uri} alone makes {count} elements, more than a part may have; --lenient leaves it out"
-                ) from None
             left_out += fault.documents
+            continue
+        if left_out and not options.is_lenient:
+            raise Unfit(too_large(left_out))
+        return Planned(cut, elements, reading, left_out)
+
+
+def too_large(documents: Sequence[tuple[str, str]]) -> str:
+    """What's said of documents that no part has room for."""
+    named = ", ".join(f"{uri} ({size})" for uri, size in documents[:MOST_NAMED])
+    more = f" and {len(documents) - MOST_NAMED} more" if documents[MOST_NAMED:] else ""
+    how = "--without GLOB leaves documents out, and --lenient of `prepare` all such"
+    return f"more than a part may have, each by itself: {named}{more}; {how}"
 
 
 def text_digest(uri: str, maps: Maps) -> str:

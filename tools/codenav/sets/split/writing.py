@@ -6,7 +6,7 @@ import os
 from dataclasses import dataclass
 from typing import Iterator, Optional, Sequence
 
-from codenav.faults import BadCall
+from codenav.faults import Unfit
 from codenav.limits import MOST_LINE_BYTES
 from codenav.sets.files import put_file
 from codenav.sets.manifest import part_name
@@ -84,4 +84,4 @@ def refuse_long_lines(lines: Sequence[str]) -> None:
     """Refuses a line that the server doesn't take."""
     for line in lines:
         if len(line.encode("utf-8", "surrogatepass")) > MOST_LINE_BYTES:
-            raise BadCall(f"an element has over {MOST_LINE_BYTES} bytes (L01): {line[:80]}")
+            raise Unfit(f"an element has over {MOST_LINE_BYTES} bytes (L01): {line[:80]}")
