@@ -47,10 +47,12 @@ class OnService(unittest.TestCase):
         with open(f"{self.base}/slow/sitecustomize.py", "w", encoding="utf-8") as script:
             script.write(SLOW.format(path=f"{self.base}/copying"))
 
-    def launched(self, tool: str, *words: str, is_slow: bool = False) -> "subprocess.Popen[str]":
-        """A tool that's called as users do."""
+    def launched(
+        self, tool: str, *words: str, is_slow: bool = False, by: tuple[str, ...] = ()
+    ) -> "subprocess.Popen[str]":
+        """A tool that's called as users do, or by way of another program."""
         process = subprocess.Popen(
-            [*command(tool), *words],
+            [*by, *command(tool), *words],
             env={**os.environ, **({"PYTHONPATH": f"{self.base}/slow"} if is_slow else {})},
             stdin=subprocess.DEVNULL,
             stdout=subprocess.PIPE,
@@ -68,9 +70,9 @@ class OnService(unittest.TestCase):
             if stream is not None:
                 stream.close()
 
-    def called(self, tool: str, *words: str) -> tuple[int, str]:
+    def called(self, tool: str, *words: str, by: tuple[str, ...] = ()) -> tuple[int, str]:
         """The status of a tool, and what it printed."""
-        done = self.launched(tool, *words)
+        done = self.launched(tool, *words, by=by)
         said, warned = done.communicate(timeout=SECONDS)
         return done.returncode, said + warned
 
@@ -263,8 +265,9 @@ class Starts(OnService):
 
 
 class Copies(OnService):
-    def backup(self, *words: str) -> tuple[int, str]:
-        return self.called("backup", "--program", self.program, *words, self.folder, self.copies)
+    def backup(self, *words: str, by: tuple[str, ...] = ()) -> tuple[int, str]:
+        given = ["--program", self.program, *words, self.folder, self.copies]
+        return self.called("backup", *given, by=by)
 
     def names(self) -> list[str]:
         return sorted(os.listdir(self.copies)) if os.path.isdir(self.copies) else []
@@ -290,6 +293,24 @@ class Copies(OnService):
             file.write(b"!")
         status, said = self.called("restore", copy, self.folder)
         self.assertEqual((status, "the copy changed" in said), (2, True))
+
+    def test_a_server_whose_files_are_hidden(self) -> None:
+        """In another space of users, as a unit with PrivateUsers is, the open files of a process
+        aren't seen; the server is found all the same, and stands while it's copied."""
+        hidden = ("unshare", "--user", "--map-root-user")
+        if subprocess.run([*hidden, "true"], check=False, capture_output=True).returncode != 0:
+            self.skipTest("no space of users can be made here")
+        self.service()
+        self.put("one", "k")
+        server = self.known().server
+        words = ["--program", self.program, self.folder, self.copies]
+        copying = self.launched("backup", *words, is_slow=True, by=hidden)
+        self.until(lambda: self.stands() or copying.poll() is not None)
+        self.assertEqual((state_of(server), copying.poll()), ("T", None))
+        copying.kill()
+        self.until(lambda: state_of(server) == "S")
+        status, said = self.backup(by=hidden)
+        self.assertEqual((status, len(self.copied())), (0, 1), said)
 
     def test_the_port(self) -> None:
         """A side has its port: a turn without a front stays on it, and each restore goes to the

@@ -88,16 +88,24 @@ def serving_of(folder: str) -> Optional[Serving]:
     return found if is_of(found.supervisor, folder) else None
 
 
-def is_of(process: int, folder: str) -> bool:
-    """Whether a process is there, and its command line names the folder."""
+def is_of(process: int, path: str) -> bool:
+    """Whether a process is there, and its command line names a folder or a file."""
     try:
         with open(f"/proc/{process}/cmdline", "rb") as file:
-            words = file.read().split(b"\0")
+            words = [os.fsdecode(word) for word in file.read().split(b"\0") if word]
     except OSError:
         return False
-    wanted = os.path.realpath(folder)
-    paths = (os.path.join(f"/proc/{process}/cwd", os.fsdecode(word)) for word in words if word)
-    return any(os.path.realpath(path) == wanted for path in paths)
+    wanted = os.path.realpath(path)
+    return any(place_of(process, word) == wanted for word in words)
+
+
+def place_of(process: int, word: str) -> str:
+    """Where a word of a process leads as a path, or an empty text where its own folder, which a
+    word that isn't whole begins at, may not be seen."""
+    try:
+        return os.path.realpath(os.path.join(f"/proc/{process}/cwd", word))
+    except OSError:
+        return ""
 
 
 @contextmanager
