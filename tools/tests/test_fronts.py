@@ -143,6 +143,23 @@ class OfFront:
                 self.assertEqual((found, json.loads(body)["fault"]), (status, fault))
             self.assertEqual(json.loads(body), H04)
 
+        def test_large_replies(self) -> None:
+            """A reply of several megabytes comes as the server gives it, and so does one of every
+            size about the front's buffers."""
+            server = self.own_server()
+            front = self.fresh([server])
+            for count in 400, 5_000, 30_000:
+                rows = [f"name{number:05}{'x' * 40}\ta.c\t1\n" for number in range(count)]
+                body = f"!_TAG_FILE_FORMAT\t2\t//\n!_TAG_FILE_SORTED\t1\t//\n{''.join(rows)}"
+                path = f"/projects/large/tags?key=k{count}"
+                self.assertEqual(front.ask("PUT", path, body.encode())[0], 200)
+                path = f"/names?prefix=name&limit={count}"
+                direct = request(f"http://{server}{path}", seconds=20)
+                found = front.ask("GET", path, login=None)
+                self.assertEqual((found[0], len(found[2])), (200, len(direct.body)))
+                self.assertEqual(found[2], direct.body)
+            self.assertGreater(len(direct.body), 3_000_000)
+
         def test_health_log_and_measures(self) -> None:
             self.assertEqual(self.front.ask("GET", "/health", login=None)[0], 200)
             self.front.ask("GET", "/names?name=logged")
