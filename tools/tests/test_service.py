@@ -2,6 +2,7 @@
 back, turns, and each of them killed in between."""
 
 import os
+import shutil
 import signal
 import sqlite3
 import subprocess
@@ -13,6 +14,7 @@ from typing import Callable
 
 from codenav.client.http import address, request
 from codenav.program import free_port
+from codenav.service.copies import NAME
 from codenav.service.folder import Serving, database_at, serving_of, side_of
 from codenav.service.standing import state_of
 from tests.fronts import Front, fronted, lacking
@@ -22,6 +24,8 @@ from tests.test_uploads import DUMP
 
 SECONDS = 30
 TICK = 0.02
+# a user without rights
+NOBODY = 65534
 # Python reads it first: a copy of a file says that it begins, and waits, so that who copies is
 # killed in the midst of it.
 SLOW = """import os, time
@@ -332,15 +336,103 @@ class Copies(OnService):
         return [name for name in self.names() if name.endswith("Z")]
 
     def test_old_copies(self) -> None:
+        """The oldest go, and those that were made when the clock was ahead are the oldest; the one
+        that's just made stays, and is restored where no copy is named."""
         self.ended(self.service())
-        for year in 2001, 2002, 2003:
-            os.makedirs(f"{self.copies}/{year}0101T000000Z")
-            with open(f"{self.copies}/{year}0101T000000Z/index.db", "wb"):
-                pass
-        os.makedirs(f"{self.copies}/of-another-Z")
-        self.assertEqual(self.backup("--keep", "2")[0], 0)
-        self.assertEqual(self.names()[0], "20030101T000000Z")
-        self.assertIn("of-another-Z", self.names())
+        for years, keep, left in (
+            ((2001, 2002, 2003), 2, [2003]),
+            ((2001, 2931, 2932), 2, [2001]),
+            ((2931, 2932), 2, [2932]),
+            ((2931, 2932), 1, []),
+        ):
+            shutil.rmtree(self.copies, ignore_errors=True)
+            old = [f"{year}0101T000000Z" for year in years]
+            for name in old:
+                os.makedirs(f"{self.copies}/{name}")
+                with open(f"{self.copies}/{name}/index.db", "wb"):
+                    pass
+            os.makedirs(f"{self.copies}/of-another-Z")
+            self.assertEqual(self.backup("--keep", str(keep))[0], 0)
+            found = self.copied()
+            self.assertIn("of-another-Z", found)
+            new = [name for name in found if name not in [*old, "of-another-Z"]]
+            self.assertEqual(len(new), 1, years)
+            self.assertEqual([int(name[:4]) for name in found if name in old], left)
+            status, said = self.called("restore", self.copies, self.folder)
+            text = f"{self.folder} has the copy {self.copies}/{new[0]}\n"
+            self.assertEqual((status, said), (0, text))
+
+    def test_copies_of_one_second(self) -> None:
+        """Where the names of these seconds are taken, a copy has that of the next second."""
+        self.ended(self.service())
+        begin = time.time()
+        taken = [time.strftime(NAME, time.gmtime(begin + later)) for later in range(8)]
+        for name in taken:
+            os.makedirs(f"{self.copies}/{name}/of-another")
+        status, said = self.backup()
+        self.assertEqual((status, len(self.copied())), (0, len(taken) + 1), said)
+
+    def test_copies_that_are_not_whole(self) -> None:
+        """A copy whose digest, log or database's end is missing isn't put back."""
+        self.service()
+        self.put("one", "k")
+        for name, said_of in (
+            ("index.db.digest", "no index.db.digest, so it can't be known whether it's whole"),
+            ("index.db-wal", "the copy changed since it was made"),
+            ("index.db", "the copy changed since it was made"),
+        ):
+            self.assertEqual(self.backup()[0], 0)
+            copy = f"{self.copies}/{self.copied()[-1]}"
+            if name == "index.db":
+                os.truncate(f"{copy}/{name}", 4096)
+            else:
+                os.unlink(f"{copy}/{name}")
+            other = f"{self.base}/{name}"
+            status, said = self.called("restore", copy, other)
+            self.assertEqual((status, said), (2, f"codenav restore: {copy}: {said_of}\n"))
+            self.assertFalse(os.path.exists(other))
+
+    def test_copies_that_root_makes(self) -> None:
+        """What root copies and puts back belongs to the service's user, who makes the next copy."""
+        if os.getuid() != 0:
+            self.skipTest("this isn't root")
+        self.ended(self.service())
+        os.chmod(self.base, 0o755)
+        for path in self.folder, f"{self.folder}/a", *self.files(f"{self.folder}/a"):
+            os.chown(path, NOBODY, NOBODY)
+        shutil.rmtree(self.copies, ignore_errors=True)
+        os.unlink(f"{self.folder}/lock")
+        user = ("setpriv", f"--reuid={NOBODY}", f"--regid={NOBODY}", "--clear-groups")
+        for by in (), user, user:
+            status, said = self.backup("--keep", "2", by=by)
+            self.assertEqual((status, said.count("Permission denied")), (0, 0), said)
+        copy = f"{self.copies}/{self.copied()[0]}"
+        self.assertEqual(len(self.copied()), 2)
+        self.assertEqual(self.called("restore", copy, self.folder)[0], 0)
+        made = [*self.files(self.folder), *self.files(self.copies)]
+        self.assertGreater(len(made), 8)
+        known = {path: os.stat(path).st_uid for path in made if not path.endswith("/server")}
+        self.assertEqual(set(known.values()), {NOBODY}, known)
+
+    def files(self, folder: str) -> list[str]:
+        """All that's in a folder, with it."""
+        return [folder] + [
+            os.path.join(at, name)
+            for at, folders, names in os.walk(folder)
+            for name in [*folders, *names]
+        ]
+
+    def test_a_restore_without_room(self) -> None:
+        """The database stays as it is, and nothing is left of the copy."""
+        process = self.service()
+        self.put("one", "k")
+        self.assertEqual(self.backup()[0], 0)
+        self.ended(process)
+        before = self.files(self.folder)
+        copy = f"{self.copies}/{self.copied()[0]}"
+        status, said = self.called("restore", copy, self.folder, by=("prlimit", "--fsize=4096"))
+        self.assertEqual((status, said.count("\n")), (2, 1), said)
+        self.assertEqual(self.files(self.folder), before)
 
     def test_a_backup_that_is_killed(self) -> None:
         """The server goes on, no copy is there, and the next backup is made."""
@@ -485,7 +577,7 @@ class Turns(OnService):
             pass
         for _ in range(2):
             status, said = self.called("turn", self.folder)
-            self.assertEqual((status, said), (1, f"no turn: {self.folder}/b: File exists\n"))
+            self.assertEqual((status, said), (1, f"no turn: {self.folder}/b: Not a directory\n"))
         self.assertEqual((self.known().server, self.ports()), (server, ["--port"]))
         begin = time.monotonic()
         path = "/projects/app/lsif?key=k"

@@ -115,14 +115,15 @@ class RestoreCall:
 
 def add_restore(parser: argparse.ArgumentParser) -> None:
     """The words of `restore`."""
-    parser.add_argument("copy", metavar="COPY", help="a folder that backup made")
+    said = "a folder that backup made, or that of the copies, for the newest"
+    parser.add_argument("copy", metavar="COPY", help=said)
     parser.add_argument("folder", metavar="FOLDER", help=FOLDER)
 
 
 def put_back(call: RestoreCall) -> int:
     """Puts a copy in place, and says so."""
-    restore(call.copy, call.folder)
-    print(f"{call.folder} has the copy {call.copy}")
+    copy = restore(call.copy, call.folder)
+    print(f"{call.folder} has the copy {copy}")
     return 0
 
 

@@ -108,12 +108,21 @@ def place_of(process: int, word: str) -> str:
         return ""
 
 
+def give(path: str, like: str) -> None:
+    """Has what root made belong to who has another path."""
+    if os.geteuid() == 0:
+        owner = os.stat(like)
+        os.chown(path, owner.st_uid, owner.st_gid)
+
+
 @contextmanager
 def locked(folder: str) -> Iterator[None]:
     """Keeps others from starting, copying or replacing the database; the system lets go where the
     process is killed."""
-    handle = os.open(os.path.join(folder, "lock"), os.O_RDWR | os.O_CREAT | os.O_CLOEXEC, 0o600)
+    path = os.path.join(folder, "lock")
+    handle = os.open(path, os.O_RDWR | os.O_CREAT | os.O_CLOEXEC, 0o600)
     try:
+        give(path, folder)
         fcntl.flock(handle, fcntl.LOCK_EX)
         yield
     finally:
