@@ -18,7 +18,7 @@ from codenav.service.copies import NAME
 from codenav.service.folder import Serving, database_at, serving_of, side_of
 from codenav.service.standing import state_of
 from tests.fronts import Front, fronted, lacking
-from tests.servers import command, program
+from tests.servers import command, free_row, program
 from tests.test_fronts import HOVER
 from tests.test_uploads import DUMP
 
@@ -46,7 +46,7 @@ class OnService(unittest.TestCase):
         self.base = self.enterContext(tempfile.TemporaryDirectory())
         self.folder, self.copies = f"{self.base}/service", f"{self.base}/copies"
         os.mkdir(self.folder)
-        self.port, self.second = free_port(), free_port()
+        self.port = free_row(3)
         os.mkdir(f"{self.base}/slow")
         with open(f"{self.base}/slow/sitecustomize.py", "w", encoding="utf-8") as script:
             script.write(SLOW.format(path=f"{self.base}/copying"))
@@ -88,8 +88,7 @@ class OnService(unittest.TestCase):
         return process
 
     def supervised(self, *words: str, is_slow: bool = False) -> "subprocess.Popen[str]":
-        ports = ["--port", str(self.port), "--second-port", str(self.second)]
-        given = ["--program", self.program, *ports, *words, self.folder]
+        given = ["--program", self.program, "--port", str(self.port), *words, self.folder]
         return self.launched("supervise", *given, is_slow=is_slow)
 
     def until(self, is_so: Callable[[], bool]) -> None:
@@ -100,19 +99,10 @@ class OnService(unittest.TestCase):
             time.sleep(TICK)
 
     def url(self) -> str:
-        return f"http://127.0.0.1:{self.second if side_of(self.folder) == 'b' else self.port}"
+        return f"http://127.0.0.1:{self.port}"
 
     def answers(self) -> bool:
         return request(f"{self.url()}/projects", seconds=5).status == 200
-
-    def ports(self) -> list[str]:
-        """Which of the service's ports answer."""
-        ports = {"--port": self.port, "--second-port": self.second}
-        return [
-            name
-            for name, port in ports.items()
-            if request(f"http://127.0.0.1:{port}/projects", seconds=5).status == 200
-        ]
 
     def put(self, text: str, key: str, url: str = "") -> bytes:
         """What an upload of a dump whose hover says the text is answered."""
@@ -316,21 +306,19 @@ class Copies(OnService):
         status, said = self.backup(by=hidden)
         self.assertEqual((status, len(self.copied())), (0, 1), said)
 
-    def test_the_port(self) -> None:
-        """A side has its port: a turn without a front stays on it, and each restore goes to the
-        other side."""
+    def test_one_address(self) -> None:
+        """Whoever asks the server asks one port after any number of turns and restores."""
         process = self.service()
-        self.assertEqual(self.ports(), ["--port"])
+        self.put("one", "k")
         self.assertEqual(self.backup()[0], 0)
-        copy, server = f"{self.copies}/{self.copied()[0]}", self.known().server
-        self.assertEqual(self.called("turn", self.folder)[0], 0)
-        self.until(lambda: self.known().server != server and self.answers())
-        self.assertEqual(self.ports(), ["--port"])
-        for port in "--second-port", "--port":
+        for side in "b", "a", "b":
+            server = self.known().server
+            self.assertEqual(self.called("turn", self.folder)[0], 0)
+            self.until(lambda: self.known().server != server and self.answers())
             self.ended(process)
-            self.assertEqual(self.called("restore", copy, self.folder)[0], 0)
+            self.assertEqual(self.called("restore", self.copies, self.folder)[0], 0)
             process = self.service()
-            self.assertEqual(self.ports(), [port])
+            self.assertEqual((self.known().side, self.hover()), (side, b'{"contents":"one"}'))
 
     def copied(self) -> list[str]:
         return [name for name in self.names() if name.endswith("Z")]
@@ -489,9 +477,10 @@ class Turns(OnService):
         why = lacking("lua")
         if why:
             self.skipTest(why)
-        servers = [f"127.0.0.1:{self.port}", f"127.0.0.1:{self.second}"]
+        servers = [f"127.0.0.1:{self.port + 1}", f"127.0.0.1:{self.port + 2}"]
         os.mkdir(f"{self.base}/front")
-        self.front: Front = self.enterContext(fronted("lua", f"{self.base}/front", servers))
+        front = fronted("lua", f"{self.base}/front", servers, asked=self.port)
+        self.front: Front = self.enterContext(front)
         self.local = f"http://127.0.0.1:{self.front.local}"
 
     def test_turns(self) -> None:
@@ -510,10 +499,10 @@ class Turns(OnService):
 
         writing = threading.Thread(target=write)
         writing.start()
-        for side, port in ("b", "--second-port"), ("a", "--port"):
+        for side in "b", "a":
             status, said = self.called("turn", self.folder)
             self.assertEqual((status, side_of(self.folder)), (0, side), said)
-            self.assertEqual(self.ports(), [port])
+            self.assertTrue(self.answers())
             self.assertFalse(os.path.exists(database_at(self.folder, "ab".replace(side, ""))))
             count = len(answers)
             self.until(lambda: len(answers) > count + 3)
@@ -560,9 +549,11 @@ class Turns(OnService):
         nothing changes."""
         status, said = self.called("turn", self.folder)
         self.assertEqual((status, said.count("\n")), (2, 1))
+        port, self.port = self.port, free_port()
         process = self.service()
         self.assertEqual(self.called("turn", self.folder)[0], 0)
         self.ended(process)
+        self.port = port
         self.service("--front", f"http://127.0.0.1:{free_port()}")
         for _ in range(2):
             status, said = self.called("turn", self.folder)
@@ -578,14 +569,14 @@ class Turns(OnService):
         for _ in range(2):
             status, said = self.called("turn", self.folder)
             self.assertEqual((status, said), (1, f"no turn: {self.folder}/b: Not a directory\n"))
-        self.assertEqual((self.known().server, self.ports()), (server, ["--port"]))
+        self.assertEqual((self.known().server, self.known().side), (server, "a"))
         begin = time.monotonic()
         path = "/projects/app/lsif?key=k"
         self.assertEqual(self.front.ask("PUT", path, (DUMP % "one").encode())[0], 200)
         self.assertLess(time.monotonic() - begin, 5)
         os.unlink(f"{self.folder}/b")
         self.assertEqual(self.called("turn", self.folder)[0], 0)
-        self.assertEqual(self.ports(), ["--second-port"])
+        self.assertEqual(self.known().side, "b")
 
 
 if __name__ == "__main__":
