@@ -13,7 +13,7 @@ import time
 from contextlib import ExitStack, contextmanager
 from dataclasses import dataclass, field
 from http.client import HTTPSConnection
-from typing import Iterator, Optional
+from typing import Callable, Iterator, Optional
 from urllib.parse import urlsplit
 
 from codenav.client.http import Answer, request
@@ -39,7 +39,7 @@ daemon off;
 user {user};
 worker_processes 2;
 pid {folder}/nginx.pid;
-error_log {folder}/error.log notice;
+error_log {folder}/error.log;
 {modules}
 events {{ worker_connections 2048; }}
 http {{
@@ -228,14 +228,20 @@ def fronted(
     limits: tuple[str, str] = UNLIMITED,
     longest: int = LONGEST,
     asked: Optional[int] = None,
+    rights: Callable[[str], str] = str,
 ) -> Iterator[Front]:
     """A front before servers, of which the last is the one that takes turns with the first; it's at
-    the folder, which is empty, and has a port that's asked on this machine."""
+    the folder, which is empty, has a port that's asked on this machine, and rights that may be changed."""
     front = Front(kind, folder, longest=longest, asked=asked or free_port())
     servers = servers if len(servers) > 1 else [*servers, NOBODY]
     if kind == "haproxy":
         front.more_queues = [free_port() for _ in servers[1:-1]]
     write_files(front, servers, limits)
+    with open(f"{folder}/codenav/rights", "r+", encoding="utf-8") as file:
+        changed = rights(file.read())
+        file.seek(0)
+        file.truncate()
+        file.write(changed)
     nginx = [str(found_program("nginx")), "-e", f"{folder}/error.log", "-c", f"{folder}/nginx.conf"]
     haproxy = [str(found_program("haproxy")), "-db", "-f", f"{folder}/haproxy.cfg"]
     programs = {front.queue: haproxy} if kind == "haproxy" else {}
