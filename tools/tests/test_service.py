@@ -246,6 +246,18 @@ class Starts(OnService):
             status, said = self.ended(waiting)
             self.assertEqual(status, 0, said)
 
+    def test_a_second_service(self) -> None:
+        """It waits until the first one has ended, and leaves what's known of that as it is."""
+        first = self.service()
+        known = self.known()
+        second = self.supervised()
+        self.says(second, f"{self.folder} is served by process {first.pid}")
+        self.assertEqual(self.known(), known)
+        self.assertEqual(self.called("turn", self.folder)[0], 0)
+        self.ended(first)
+        self.until(lambda: getattr(serving_of(self.folder), "supervisor", 0) == second.pid)
+        self.until(self.answers)
+
     def says(self, process: "subprocess.Popen[str]", text: str) -> None:
         """Waits until a line of a service has a text."""
         assert process.stderr is not None
