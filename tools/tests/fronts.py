@@ -131,6 +131,7 @@ def rendered(text: str, front: Front, servers: list[str], limits: tuple[str, str
         "listen 443 ssl": f"listen 127.0.0.1:{front.port} ssl",
         "listen [::]:443 ssl": f"listen [::1]:{front.port} ssl",
         "listen 127.0.0.1:8090": f"listen 127.0.0.1:{front.asked}",
+        "127.0.0.1:8090 yes": f"127.0.0.1:{front.asked} yes",
         "    server 127.0.0.1:8091 max_fails=0;\n": "".join(
             f"    server {server} max_fails=0;\n" for server in servers[:-1]
         ),

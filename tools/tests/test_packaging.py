@@ -255,7 +255,8 @@ class LaidOut(unittest.TestCase):
             done = self.called(f"{self.folder}/link", name, "--help")
             self.assertEqual((done.returncode, done.stderr), (0, ""), name)
         said = self.called(f"{made}/usr/bin/codenav", "--version").stdout
-        self.assertIn(f"proved: {os.path.realpath(made)}/usr/{PACKAGED}\n", said)
+        known = "proved" if Program(self.program).is_proved() else "not known to be proved"
+        self.assertIn(f", {known}: {os.path.realpath(made)}/usr/{PACKAGED}\n", said)
         tried = self.called(f"{made}/usr/bin/codenav", "try-it")
         self.assertEqual(tried.returncode, 0, tried.stdout + tried.stderr)
         self.assertTrue(os.path.exists(f"{made}/usr/share/doc/codenav/OPERATE.md"))
