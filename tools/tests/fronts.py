@@ -232,7 +232,8 @@ def fronted(
     rights: Callable[[str], str] = str,
 ) -> Iterator[Front]:
     """A front before servers, of which the last is the one that takes turns with the first; it's at
-    the folder, which is empty, has a port that's asked on this machine, and rights that may be changed."""
+    the folder, which is empty, has a port that's asked on this machine, and rights that may be changed.
+    """
     front = Front(kind, folder, longest=longest, asked=asked or free_port())
     servers = servers if len(servers) > 1 else [*servers, NOBODY]
     if kind == "haproxy":

@@ -210,7 +210,8 @@ class OfFront:
             self.assertGreater(len(direct.body), 3_000_000)
 
         def test_health_log_and_measures(self) -> None:
-            self.assertEqual(self.front.ask("GET", "/health", login=None)[0], 200)
+            for method in "GET", "HEAD":
+                self.assertEqual(self.front.ask(method, "/health", login=None)[0], 200)
             self.front.ask("GET", "/names?name=logged")
             # it's logged when the reply is out
             stop, found = time.monotonic() + 10, False
@@ -223,6 +224,17 @@ class OfFront:
             self.assertTrue(found)
             name = "codenav_waiting 0" if self.kind == "lua" else "haproxy_server_current_queue"
             self.assertIn(name, self.front.local_answer("/metrics").body.decode())
+
+        def test_errors_of_nginx(self) -> None:
+            """What nginx itself refuses is said as JSON too."""
+            for method, path, status in (
+                ("TRACE", "/projects", 405),
+                ("GET", f"/{'x' * 9000}", 431),
+                ("POST", "/health", 403),
+            ):
+                found, fields, body = self.front.ask(method, path)
+                self.assertEqual((found, fields["Content-Type"]), (status, "application/json"))
+                self.assertIn("fault", json.loads(body), path[:9])
 
         def test_rate(self) -> None:
             front = self.fresh([NOBODY], ("rate=1r/m", "burst=1"))

@@ -154,13 +154,20 @@ class Files(unittest.TestCase):
     def test_ports(self) -> None:
         """The port that's asked is the server's own with HAProxy and without a front; with Lua the
         front has it, and the sides of the server the next two."""
-        asked = int(re.findall(r"CODENAV_PORT=(\d+)", text_of("packaging/debian/codenav.default"))[0])
+        asked = int(
+            re.findall(r"CODENAV_PORT=(\d+)", text_of("packaging/debian/codenav.default"))[0]
+        )
         lua = text_of("packaging/front/lua/codenav.conf")
         self.assertIn(f"listen 127.0.0.1:{asked};", lua)
         servers = re.findall(r"(?m)^    server 127.0.0.1:(\d+)", lua)
         self.assertEqual(servers, [str(asked + 1), str(asked + 2)])
-        self.assertIn(f"server one 127.0.0.1:{asked} ", text_of("packaging/front/haproxy/haproxy.cfg"))
-        used = {text_of("packaging/container/Containerfile"), text_of("packaging/runit/codenav/run")}
+        self.assertIn(
+            f"server one 127.0.0.1:{asked} ", text_of("packaging/front/haproxy/haproxy.cfg")
+        )
+        used = {
+            text_of("packaging/container/Containerfile"),
+            text_of("packaging/runit/codenav/run"),
+        }
         for text in used:
             self.assertRegex(text, rf"(127\.0\.0\.1:|CODENAV_PORT:-){asked}\b")
 
