@@ -10,6 +10,7 @@ import tempfile
 import threading
 import time
 import unittest
+from contextlib import suppress
 from typing import Callable
 
 from codenav.client.http import address, request
@@ -570,6 +571,24 @@ class Turns(OnService):
         for _ in range(2):
             status, said = self.called("turn", self.folder)
             self.assertEqual((status, "no turn: " in said, self.answers()), (1, True, True), said)
+
+    def test_a_full_disk(self) -> None:
+        """No turn is taken, who asked for one is told so at once, and the service goes on."""
+        words = ["mount", "-t", "tmpfs", "-o", "size=8m", "codenav", self.folder]
+        if subprocess.run(words, check=False, capture_output=True).returncode != 0:
+            self.skipTest("no file system can be mounted here")
+        self.addCleanup(subprocess.run, ["umount", "--lazy", self.folder], check=True)
+        process = self.service("--front", self.local)
+        with open(f"{self.folder}/full", "wb", buffering=0) as file:
+            with suppress(OSError):
+                while file.write(bytes(1 << 12)):
+                    pass
+        for _ in range(2):
+            status, said = self.called("turn", self.folder)
+            self.assertEqual((status, "No space left" in said), (1, True), said)
+        os.unlink(f"{self.folder}/full")
+        self.assertEqual(self.called("turn", self.folder)[0], 0)
+        self.ended(process)
 
     def test_a_turn_that_finds_no_room(self) -> None:
         """Where the other side can't be made the server goes on, and writes too; the next turn is

@@ -73,9 +73,14 @@ def synced(path: str) -> None:
 
 
 def note(folder: str, serving: Serving) -> None:
-    """Says who serves."""
-    with whole_file(os.path.join(folder, "server")) as out:
-        out.write(json.dumps(asdict(serving)).encode() + b"\n")
+    """Says who serves; where the disk has no room for a file, in the room of the one before."""
+    path, text = os.path.join(folder, "server"), json.dumps(asdict(serving)).encode() + b"\n"
+    try:
+        with whole_file(path) as out:
+            out.write(text)
+    except OSError:
+        with open(path, "r+b", buffering=0) as file:
+            file.write(text.ljust(os.path.getsize(path)))
 
 
 def serving_of(folder: str) -> Optional[Serving]:
