@@ -239,6 +239,7 @@ class Starts(OnService):
             holder.stdout.readline()
             waiting = self.supervised()
             self.says(waiting, is_said)
+            time.sleep(2.5)
             self.assertIsNone(waiting.poll())
             holder.terminate()
             holder.communicate()
@@ -246,6 +247,7 @@ class Starts(OnService):
             self.assertEqual(self.hover(), b'{"contents":"one"}')
             status, said = self.ended(waiting)
             self.assertEqual(status, 0, said)
+            self.assertNotIn(": codenav: ", said, "it's said once, however often it's tried")
 
     def test_a_second_service(self) -> None:
         """It waits until the first one has ended, and leaves what's known of that as it is."""

@@ -151,17 +151,20 @@ class Supervisor:
         has_served = server.listens()
         server.end()
         self.asked_before, said = -1, server.last_words()
-        for line in said.splitlines():
-            self.shows.warn(line)
+        refusal = None
+        if server.process.returncode == 2:
+            refusal = refusal_of(said.rpartition("\n")[2], server.database)
+        if refusal is None or refusal.text != self.refused:
+            for line in said.splitlines():
+                self.shows.warn(line)
         if has_served:
             try:
                 digests.keep(server.database)
             except OSError as fault:
                 self.shows.warn(f"no digest of {server.database} is kept: {fault.strerror}")
-        if server.process.returncode == 2:
-            return refusal_of(said.rpartition("\n")[2], server.database)
-        self.shows.warn(f"the server ended with status {server.process.returncode}")
-        return None
+        if refusal is None:
+            self.shows.warn(f"the server ended with status {server.process.returncode}")
+        return refusal
 
     def may_wait(self, refusal: Refusal) -> bool:
         """Says once why no server can be started; answers whether another try may help, and not a
