@@ -23,9 +23,10 @@ from contextlib import ExitStack
 from load import AT, Client, Place, Seen, hover_dump
 from watched import FIRST_LINES, SECONDS, tool
 
-from codenav.program import Program, free_port
+from codenav.program import Program
 from codenav.service.folder import serving_of
 from tests.fronts import Front, fronted, lacking
+from tests.servers import free_row
 
 PROJECTS, CLIENTS = 40, 20
 GAP = 1.0
@@ -35,10 +36,10 @@ TAGS = FIRST_LINES + "name_{0}\ta.c\t{0}\n"
 class Service:
     """A service that's started again where it was killed, and what is done to it."""
 
-    def __init__(self, program: str, folder: str, front: Front, ports: tuple[int, int]) -> None:
+    def __init__(self, program: str, folder: str, front: Front, port: int) -> None:
         self.program, self.folder, self.front = program, folder, front
         self.log = open(f"{folder}.log", "ab")
-        self.words = ["--program", program, "--port", str(ports[0]), "--second-port", str(ports[1])]
+        self.words = ["--program", program, "--port", str(port)]
         self.words += ["--front", f"http://127.0.0.1:{front.local}", folder]
         self.done: "Counter[str]" = Counter()
         self.process = self.started()
@@ -187,11 +188,11 @@ def trial(given: argparse.Namespace, stack: ExitStack) -> bool:
     )
     for name in "front", "service":
         os.mkdir(f"{base}/{name}")
-    ports = free_port(), free_port()
-    servers = [f"127.0.0.1:{port}" for port in ports]
-    front = stack.enter_context(fronted("lua", f"{base}/front", servers))
+    port = free_row(3)
+    servers = [f"127.0.0.1:{port + 1}", f"127.0.0.1:{port + 2}"]
+    front = stack.enter_context(fronted("lua", f"{base}/front", servers, asked=port))
     steady = stack.enter_context(Program(program).serve()).url
-    service = Service(program, f"{base}/service", front, ports)
+    service = Service(program, f"{base}/service", front, port)
     stack.callback(service.end)
     places = Place(front.port, front.context()), Place(int(steady.rpartition(":")[2]))
     is_over, begin = threading.Event(), time.monotonic()

@@ -20,9 +20,9 @@ from load import Place, Seen, load
 from watched import dump, request, tool
 
 from codenav.client import http
-from codenav.program import free_port
 from codenav.service.folder import database_at
 from tests.fronts import fronted, lacking
+from tests.servers import free_row
 
 FUNCTIONS = 3001
 MOST = 0.5
@@ -62,17 +62,17 @@ def trial(given: argparse.Namespace, stack: ExitStack) -> bool:
     program, base = os.path.abspath(given.program), stack.enter_context(
         tempfile.TemporaryDirectory()
     )
-    folder, ports = f"{base}/service", (free_port(), free_port())
+    folder, port = f"{base}/service", free_row(3)
     size = filled(program, folder, given.projects)
     os.mkdir(f"{base}/front")
-    servers = [f"127.0.0.1:{port}" for port in ports]
-    front = stack.enter_context(fronted("lua", f"{base}/front", servers))
-    words = ["--program", program, "--port", str(ports[0]), "--second-port", str(ports[1])]
+    servers = [f"127.0.0.1:{port + 1}", f"127.0.0.1:{port + 2}"]
+    front = stack.enter_context(fronted("lua", f"{base}/front", servers, asked=port))
+    words = ["--program", program, "--port", str(port)]
     words += ["--front", f"http://127.0.0.1:{front.local}", folder]
     service = subprocess.Popen(tool("supervise", *words), stdin=subprocess.DEVNULL)
     stack.callback(service.wait)
     stack.callback(service.terminate)
-    while http.request(f"http://127.0.0.1:{ports[0]}/projects", seconds=5).status != 200:
+    while http.request(f"http://127.0.0.1:{port}/projects", seconds=5).status != 200:
         time.sleep(0.1)
     place, until = Place(front.port, front.context()), time.monotonic() + BEFORE
     before = asyncio.run(load(place, "before", lambda: time.monotonic() > until))

@@ -14,8 +14,10 @@ from typing import Iterator, NamedTuple, Optional
 from codenav.faults import BadCall, Failed
 
 TOP = str(Path(__file__).resolve().parents[2])
-# where a clone has the program that it built, and a package its own, from its prefix; both are proved
+# where a clone has the program that it built, which is proved, and a package its own, from its
+# prefix; a package of what a clone built has an empty file of that name and ending beside it
 BUILT, PACKAGED = "crates/codenav/out/codenav", "libexec/codenav/codenav"
+PROVED = ".proved"
 REQUESTS = 1_000_000
 SECONDS = 10
 END_WITH_PARENT = 1
@@ -123,8 +125,10 @@ class Program:
         return found
 
     def is_proved(self) -> bool:
-        """Whether it's known to be proved: what a clone builds is, and what a package has."""
-        return os.path.realpath(self.path).endswith((f"/{BUILT}", f"/{PACKAGED}"))
+        """Whether it's known to be proved: what a clone builds is, and what a package has of it."""
+        path = os.path.realpath(self.path)
+        is_packaged = path.endswith(f"/{PACKAGED}") and os.path.exists(path + PROVED)
+        return is_packaged or path.endswith(f"/{BUILT}")
 
     def called(self, *words: str) -> Said:
         """A call that ends by itself, without input. Raises BadCall where it can't be made."""

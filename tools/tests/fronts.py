@@ -13,7 +13,7 @@ import time
 from contextlib import ExitStack, contextmanager
 from dataclasses import dataclass, field
 from http.client import HTTPSConnection
-from typing import Iterator, Optional
+from typing import Callable, Iterator, Optional
 from urllib.parse import urlsplit
 
 from codenav.client.http import Answer, request
@@ -25,6 +25,7 @@ KINDS = {"lua": "nginx with Lua", "haproxy": "nginx and HAProxy"}
 PACKAGES = "apt-get install nginx libnginx-mod-http-lua haproxy openssl"
 LUA_MODULES = "/usr/share/nginx/modules-available/mod-http-*.conf"
 USER = "ci:secret"
+READER, OWNER = "reader:secret", "alice:secret"
 RATE, BURST = "rate=200r/s", "burst=400"
 UNLIMITED = ("rate=100000r/s", "burst=10000")
 SECONDS = 20
@@ -38,7 +39,7 @@ daemon off;
 user {user};
 worker_processes 2;
 pid {folder}/nginx.pid;
-error_log {folder}/error.log notice;
+error_log {folder}/error.log;
 {modules}
 events {{ worker_connections 2048; }}
 http {{
@@ -69,12 +70,14 @@ def found_program(name: str) -> Optional[str]:
 
 @dataclass
 class Front:
-    """A front that runs: the ports of its own, the folder of its files, and how it's asked."""
+    """A front that runs: the ports of its own, of which that with Lua has one for who asks on this
+    machine, the folder of its files, and how it's asked."""
 
     kind: str
     folder: str
     port: int = field(default_factory=free_port)
     local: int = field(default_factory=free_port)
+    asked: int = field(default_factory=free_port)
     queue: int = field(default_factory=free_port)
     more_queues: list[int] = field(default_factory=list)
     longest: int = LONGEST
@@ -126,13 +129,16 @@ def rendered(text: str, front: Front, servers: list[str], limits: tuple[str, str
         "/var/lib/codenav/side": f"{front.folder}/side",
         "/run/haproxy/codenav.sock": f"{front.folder}/haproxy.sock",
         "listen 443 ssl": f"listen 127.0.0.1:{front.port} ssl",
-        "    server 127.0.0.1:8090 max_fails=0;\n": "".join(
+        "listen [::]:443 ssl": f"listen [::1]:{front.port} ssl",
+        "listen 127.0.0.1:8090": f"listen 127.0.0.1:{front.asked}",
+        "127.0.0.1:8090 yes": f"127.0.0.1:{front.asked} yes",
+        "    server 127.0.0.1:8091 max_fails=0;\n": "".join(
             f"    server {server} max_fails=0;\n" for server in servers[:-1]
         ),
         "server one 127.0.0.1:8090": f"server one {servers[0]}",
-        "127.0.0.1:8091": servers[-1],
+        "127.0.0.1:8092": servers[-1],
         "127.0.0.1:8089": f"127.0.0.1:{front.local}",
-        "127.0.0.1:8092": f"127.0.0.1:{front.queue}",
+        "127.0.0.1:8093": f"127.0.0.1:{front.queue}",
         RATE: limits[0],
         BURST: limits[1],
         f"LONGEST, PAUSE = {LONGEST}": f"LONGEST, PAUSE = {front.longest}",
@@ -164,7 +170,8 @@ def write_files(front: Front, servers: list[str], limits: tuple[str, str]) -> No
     """Writes the front's files into its folder, with a login and a certificate."""
     source, own = os.path.join(TOP, "packaging", "front"), f"{front.folder}/codenav"
     os.makedirs(own)
-    for path in glob.glob(f"{source}/*.conf") + glob.glob(f"{source}/{front.kind}/*"):
+    shared = [f"{source}/rights", *glob.glob(f"{source}/*.conf")]
+    for path in shared + glob.glob(f"{source}/{front.kind}/*"):
         name = os.path.basename(path)
         target = (
             f"{front.folder}/{name}" if name in ("codenav.conf", "haproxy.cfg") else f"{own}/{name}"
@@ -172,7 +179,8 @@ def write_files(front: Front, servers: list[str], limits: tuple[str, str]) -> No
         with open(path, encoding="utf-8") as file, open(target, "w", encoding="utf-8") as out:
             out.write(rendered(file.read(), front, servers, limits))
     with open(f"{own}/users", "w", encoding="utf-8") as users:
-        users.write(USER.replace(":", ":{PLAIN}") + "\n")
+        for login in USER, READER, OWNER:
+            users.write(login.replace(":", ":{PLAIN}") + "\n")
     words = ["openssl", "req", "-x509", "-newkey", "rsa:2048", "-nodes", "-days", "2"]
     words += ["-subj", "/CN=codenav", "-addext", "subjectAltName=IP:127.0.0.1"]
     words += ["-keyout", f"{own}/key.pem", "-out", f"{own}/certificate.pem"]
@@ -220,14 +228,22 @@ def fronted(
     servers: list[str],
     limits: tuple[str, str] = UNLIMITED,
     longest: int = LONGEST,
+    asked: Optional[int] = None,
+    rights: Callable[[str], str] = str,
 ) -> Iterator[Front]:
     """A front before servers, of which the last is the one that takes turns with the first; it's at
-    the folder, which is empty."""
-    front = Front(kind, folder, longest=longest)
+    the folder, which is empty, has a port that's asked on this machine, and rights that may be changed.
+    """
+    front = Front(kind, folder, longest=longest, asked=asked or free_port())
     servers = servers if len(servers) > 1 else [*servers, NOBODY]
     if kind == "haproxy":
         front.more_queues = [free_port() for _ in servers[1:-1]]
     write_files(front, servers, limits)
+    with open(f"{folder}/codenav/rights", "r+", encoding="utf-8") as file:
+        changed = rights(file.read())
+        file.seek(0)
+        file.truncate()
+        file.write(changed)
     nginx = [str(found_program("nginx")), "-e", f"{folder}/error.log", "-c", f"{folder}/nginx.conf"]
     haproxy = [str(found_program("haproxy")), "-db", "-f", f"{folder}/haproxy.cfg"]
     programs = {front.queue: haproxy} if kind == "haproxy" else {}

@@ -2,11 +2,13 @@
 answers on their way."""
 
 import os
+import random
 import socket
 import subprocess
 import sys
 import threading
 import unittest
+from contextlib import ExitStack
 from typing import Any, Callable, Optional
 from urllib.parse import urlencode
 
@@ -34,6 +36,20 @@ def built_program() -> Optional[str]:
 def command(word: str) -> list[str]:
     """What calls a word in a process of its own."""
     return [sys.executable, "-B", os.path.join(TOP, "tools", "codenav", "__main__.py"), word]
+
+
+def free_row(count: int) -> int:
+    """The first of so many ports, one after the other, that nobody listens on now, of those that
+    the system gives to nobody who names none."""
+    while True:
+        first = random.randrange(20_000, 32_000)
+        with ExitStack() as stack:
+            try:
+                for port in range(first, first + count):
+                    stack.enter_context(socket.create_server(("127.0.0.1", port)))
+            except OSError:
+                continue
+        return first
 
 
 def ended(process: "subprocess.Popen[Any]") -> None:

@@ -6,18 +6,20 @@ import json
 import os
 import re
 import shutil
+import signal
 import socket
 import subprocess
 import tempfile
 import threading
 import time
 import unittest
-from contextlib import ExitStack
-from typing import ClassVar, Optional
+from contextlib import ExitStack, suppress
+from http.client import HTTPException
+from typing import Callable, ClassVar, Optional
 
 from codenav.client.http import request
 from codenav.program import Program
-from tests.fronts import NOBODY, UNLIMITED, USER, Front, fronted, host_of, lacking
+from tests.fronts import NOBODY, OWNER, READER, UNLIMITED, USER, Front, fronted, host_of, lacking
 from tests.servers import TOP, Relay, program
 from tests.test_uploads import DUMP
 
@@ -77,10 +79,16 @@ class OfFront:
         def tearDownClass(cls) -> None:
             cls.stack.close()
 
-        def fresh(self, servers: list[str], limits: tuple[str, str] = UNLIMITED) -> Front:
+        def fresh(
+            self,
+            servers: list[str],
+            limits: tuple[str, str] = UNLIMITED,
+            rights: Callable[[str], str] = str,
+        ) -> Front:
             """A front of this test alone."""
             folder = self.enterContext(tempfile.TemporaryDirectory())
-            return self.enterContext(fronted(self.kind, folder, servers, limits))
+            front = fronted(self.kind, folder, servers, limits, rights=rights)
+            return self.enterContext(front)
 
         def test_each_route(self) -> None:
             """By way of the front each request has the reply that the server gives."""
@@ -126,7 +134,7 @@ class OfFront:
             self.assertEqual(self.front.ask("DELETE", "/projects/chunks?key=gone")[0], 200)
 
         def test_login(self) -> None:
-            for login in None, "ci:wrong", "nobody:secret":
+            for login in None, "ci:wrong":
                 for method, path in ("PUT", "/projects/p/lsif?key=k"), (
                     "DELETE",
                     "/projects/p?key=k",
@@ -136,6 +144,47 @@ class OfFront:
                     self.assertIn("Basic", fields["WWW-Authenticate"])
             self.assertEqual(self.front.ask("GET", "/projects", login=None)[0], 200)
 
+        def test_rights(self) -> None:
+            """Who may read and write what, by the rights that are installed and one that's of one
+            project."""
+            own = r'"~^alice write app$" yes;'
+            front = self.fresh([self.own_server()], rights=lambda text: f"{text}{own}\n")
+            body = (DUMP % "one").encode()
+            for login, project, status in (
+                (None, "app", 401),
+                (USER, "app", 200),
+                (READER, "app", 403),
+                ("reader:wrong", "app", 403),
+                (OWNER, "app", 200),
+                (OWNER, "app-parts", 200),
+                (OWNER, "appendix", 403),
+                ("alice:wrong", "app", 401),
+                ("nobody:secret", "app", 403),
+                (":secret", "app", 401),
+                (" read:secret", "app", 401),
+            ):
+                path = f"/projects/{project}/lsif?key=k&project=app"
+                found = front.ask("PUT", path, body, login)
+                self.assertEqual(found[0] == 200 or found[0], status == 200 or status, login)
+                path = f"/projects/{project}?key=gone"
+                self.assertEqual(front.ask("DELETE", path, login=login)[0], status, login)
+                self.assertEqual(front.ask("GET", "/projects", login=login)[0], 200, login)
+
+        def test_a_login_for_readers(self) -> None:
+            """Where the first right is taken out, reading needs a login too."""
+            front = self.fresh(
+                [self.own_server()], rights=lambda text: text.replace('"~^ read " yes;\n', "")
+            )
+            for login, status in (
+                (None, 401),
+                (USER, 200),
+                (READER, 200),
+                ("reader:wrong", 401),
+                ("nobody:secret", 401),
+            ):
+                self.assertEqual(front.ask("GET", "/projects", login=login)[0], status, login)
+            self.assertEqual(front.ask("PUT", "/projects/p/lsif?key=k", b"", READER)[0], 403)
+
         def test_body_limit(self) -> None:
             path = "/projects/p/lsif?key=long"
             for count, status, fault in (MOST_BYTES, 422, "L01"), (MOST_BYTES + 1, 413, "H04"):
@@ -143,8 +192,26 @@ class OfFront:
                 self.assertEqual((found, json.loads(body)["fault"]), (status, fault))
             self.assertEqual(json.loads(body), H04)
 
+        def test_large_replies(self) -> None:
+            """A reply of several megabytes comes as the server gives it, and so does one of every
+            size about the front's buffers."""
+            server = self.own_server()
+            front = self.fresh([server])
+            for count in 400, 5_000, 30_000:
+                rows = [f"name{number:05}{'x' * 40}\ta.c\t1\n" for number in range(count)]
+                body = f"!_TAG_FILE_FORMAT\t2\t//\n!_TAG_FILE_SORTED\t1\t//\n{''.join(rows)}"
+                path = f"/projects/large/tags?key=k{count}"
+                self.assertEqual(front.ask("PUT", path, body.encode())[0], 200)
+                path = f"/names?prefix=name&limit={count}"
+                direct = request(f"http://{server}{path}", seconds=20)
+                found = front.ask("GET", path, login=None)
+                self.assertEqual((found[0], len(found[2])), (200, len(direct.body)))
+                self.assertEqual(found[2], direct.body)
+            self.assertGreater(len(direct.body), 3_000_000)
+
         def test_health_log_and_measures(self) -> None:
-            self.assertEqual(self.front.ask("GET", "/health", login=None)[0], 200)
+            for method in "GET", "HEAD":
+                self.assertEqual(self.front.ask(method, "/health", login=None)[0], 200)
             self.front.ask("GET", "/names?name=logged")
             # it's logged when the reply is out
             stop, found = time.monotonic() + 10, False
@@ -157,6 +224,17 @@ class OfFront:
             self.assertTrue(found)
             name = "codenav_waiting 0" if self.kind == "lua" else "haproxy_server_current_queue"
             self.assertIn(name, self.front.local_answer("/metrics").body.decode())
+
+        def test_errors_of_nginx(self) -> None:
+            """What nginx itself refuses is said as JSON too."""
+            for method, path, status in (
+                ("TRACE", "/projects", 405),
+                ("GET", f"/{'x' * 9000}", 431),
+                ("POST", "/health", 403),
+            ):
+                found, fields, body = self.front.ask(method, path)
+                self.assertEqual((found, fields["Content-Type"]), (status, "application/json"))
+                self.assertIn("fault", json.loads(body), path[:9])
 
         def test_rate(self) -> None:
             front = self.fresh([NOBODY], ("rate=1r/m", "burst=1"))
@@ -245,6 +323,76 @@ class Lua(OfFront.Tests):
         self.assertEqual(front.ask("GET", HOVER)[0], 200)
         for path in "/use?side=c", "/turn?side=c", "/use", "/none":
             self.assertEqual(front.local_answer(path).status, 404)
+
+    def test_this_machine(self) -> None:
+        """Who asks on this machine is asked for no login, and answered by the side in use."""
+        front = self.fresh([self.own_server() for _ in range(2)])
+        at, body = f"http://127.0.0.1:{front.asked}", io.BytesIO((DUMP % "own").encode())
+        self.asked(front, "/use?side=b")
+        answer = request(f"{at}/projects/app/lsif?key=k", "PUT", body, seconds=20)
+        self.assertEqual(answer.status, 200)
+        self.assertEqual(request(f"{at}{HOVER}", seconds=20).body, b'{"contents":"own"}')
+        self.asked(front, "/use?side=a")
+        self.assertEqual(request(f"{at}{HOVER}", seconds=20).status, 404)
+
+    def test_a_killed_worker(self) -> None:
+        """The writes of a worker of nginx that is killed aren't under way any more."""
+        listener = self.enterContext(socket.create_server(("127.0.0.1", 0)))
+        front = self.fresh([f"127.0.0.1:{listener.getsockname()[1]}"])
+
+        def put() -> None:
+            with suppress(OSError, HTTPException):
+                front.ask("PUT", "/projects/app/lsif?key=k", b"x")
+
+        writing = threading.Thread(target=put)
+        writing.start()
+        self.until(lambda: self.asked(front, "/state")["writes"] == 1)
+        with open(f"{front.folder}/nginx.pid", encoding="utf-8") as file:
+            master = file.read().strip()
+        with open(f"/proc/{master}/task/{master}/children", encoding="utf-8") as file:
+            for worker in file.read().split():
+                os.kill(int(worker), signal.SIGKILL)
+        writing.join(20)
+        self.until(lambda: front.local_answer("/state").status == 200)
+        self.assertEqual(self.asked(front, "/state")["writes"], 0)
+
+    def until(self, is_so: Callable[[], bool]) -> None:
+        """Waits for something."""
+        stop = time.monotonic() + 20
+        while not is_so():
+            self.assertLess(time.monotonic(), stop)
+            time.sleep(0.05)
+
+    def test_what_is_logged(self) -> None:
+        """While the server is away, as Debian's nginx logs, a few lines say so, however many wait;
+        of a refused upload it's known by whom it came, why it was refused, and how long the server
+        took."""
+        held = socket.socket()
+        held.bind(("127.0.0.1", 0))
+        port = held.getsockname()[1]
+        front = self.fresh([f"127.0.0.1:{port}"])
+        waiting = [threading.Thread(target=front.ask, args=("GET", "/projects")) for _ in range(20)]
+        for one in waiting:
+            one.start()
+        time.sleep(4)
+        held.close()
+        with Program(program()).serve(port=port):
+            for one in waiting:
+                one.join(20)
+            front.ask("PUT", "/projects/app/lsif?key=k", b"x")
+        with open(f"{front.folder}/error.log", encoding="utf-8") as log:
+            lines = log.read()
+        self.assertLessEqual(lines.count("connect() failed"), 60)
+        self.assertIn("codenav: no whole reply, so sent again: /projects", lines)
+        self.until(lambda: any(line["method"] == "PUT" for line in self.logged(front)))
+        line = self.logged(front)[-1]
+        self.assertEqual((line["user"], line["status"], line["fault"]), ("ci", 422, "L02"))
+        self.assertGreater(float(str(line["server_seconds"])), 0)
+
+    def logged(self, front: Front) -> list[dict[str, object]]:
+        """The lines of the front's log."""
+        with open(f"{front.folder}/access.log", encoding="utf-8") as log:
+            return [json.loads(line) for line in log]
 
     def test_several_servers(self) -> None:
         """Each project is on one of the servers, and found there by its path and by its name; the

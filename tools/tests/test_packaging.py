@@ -76,7 +76,7 @@ class Files(unittest.TestCase):
             made = self.completed(shell)
             for word in [*OWN, *TOOLS]:
                 self.assertRegex(made, rf"\b{word}\b")
-            self.assertRegex(made, r"second-port\b")
+            self.assertRegex(made, r"requests\b")
 
     def test_what_shells_complete(self) -> None:
         """What bash and fish answer for a line that isn't whole."""
@@ -90,7 +90,7 @@ class Files(unittest.TestCase):
             for words, found in (
                 ("codenav sup", ["supervise"]),
                 ("codenav mi", ["migrate"]),
-                ("codenav supervise --second", ["--second-port"]),
+                ("codenav supervise --req", ["--requests"]),
                 ("codenav check-lsif --prof", ["--profile"]),
                 ("codenav check-lsif --profile ", ["1", "2"]),
             ):
@@ -151,6 +151,88 @@ class Files(unittest.TestCase):
             self.assertIn(f"${{{name}}}", unit)
             self.assertIn(f"${{{name}:-", run)
 
+    def test_ports(self) -> None:
+        """The port that's asked is the server's own with HAProxy and without a front; with Lua the
+        front has it, and the sides of the server the next two."""
+        asked = int(
+            re.findall(r"CODENAV_PORT=(\d+)", text_of("packaging/debian/codenav.default"))[0]
+        )
+        lua = text_of("packaging/front/lua/codenav.conf")
+        self.assertIn(f"listen 127.0.0.1:{asked};", lua)
+        servers = re.findall(r"(?m)^    server 127.0.0.1:(\d+)", lua)
+        self.assertEqual(servers, [str(asked + 1), str(asked + 2)])
+        self.assertIn(
+            f"server one 127.0.0.1:{asked} ", text_of("packaging/front/haproxy/haproxy.cfg")
+        )
+        used = {
+            text_of("packaging/container/Containerfile"),
+            text_of("packaging/runit/codenav/run"),
+        }
+        for text in used:
+            self.assertRegex(text, rf"(127\.0\.0\.1:|CODENAV_PORT:-){asked}\b")
+
+
+class Installed(unittest.TestCase):
+    """The front's files, installed into a folder in place of the system's."""
+
+    def setUp(self) -> None:
+        if os.getuid() != 0 or not shutil.which("nginx", path="/usr/sbin:/usr/bin"):
+            self.skipTest("this isn't root, or nginx isn't there (Debian's nginx)")
+        self.folder = self.enterContext(tempfile.TemporaryDirectory())
+        shutil.copytree(os.path.join(PACKAGING, "front"), f"{self.folder}/front")
+        for name in "nginx/conf.d", "haproxy", "log":
+            os.makedirs(f"{self.folder}/{name}")
+        self.write("haproxy/haproxy.cfg", "# of the site\n")
+        script = self.text("front/install").replace("/var/log/nginx", f"{self.folder}/log")
+        for name in "nginx", "haproxy":
+            script = script.replace(f"/etc/{name}", f"{self.folder}/{name}")
+        self.write("front/install", script)
+
+    def text(self, name: str) -> str:
+        return text_of(self.folder, name)
+
+    def write(self, name: str, text: str) -> None:
+        with open(f"{self.folder}/{name}", "w", encoding="utf-8") as out:
+            out.write(text)
+
+    def install(self, kind: str) -> list[str]:
+        """The lines that it prints, without the folder."""
+        words = ["sh", f"{self.folder}/front/install", kind]
+        done = subprocess.run(words, check=True, capture_output=True, text=True)
+        self.assertEqual(done.stderr, "")
+        return done.stdout.replace(f"{self.folder}/", "").splitlines()
+
+    def test_again(self) -> None:
+        """What an administrator changed stays, and what was there before the front is kept."""
+        said = self.install("haproxy")
+        self.assertEqual(
+            said[0], "install: haproxy/haproxy.cfg of before is haproxy/haproxy.cfg.before"
+        )
+        self.assertEqual(self.text("haproxy/haproxy.cfg.before"), "# of the site\n")
+        self.assertRegex(said[1], "^ci:[0-9a-f]{32}$")
+        own = ["nginx/codenav/http.conf", "nginx/codenav/rights", "haproxy/haproxy.cfg"]
+        own += ["nginx/conf.d/codenav.conf"]
+        for name in [*own, "nginx/codenav/users"]:
+            self.write(name, self.text(name) + "# changed\n")
+        self.assertEqual(self.install("haproxy"), [])
+        self.write("front/http.conf", self.text("front/http.conf") + "# newer\n")
+        self.write("front/server.conf", self.text("front/server.conf") + "# newer\n")
+        name = "nginx/codenav/http.conf"
+        told = f"install: {name} was changed, so it stays: see {name}.new"
+        self.assertEqual(self.install("haproxy"), [told])
+        self.assertIn("# newer\n", self.text("nginx/codenav/server.conf"))
+        self.assertIn("# newer\n", self.text(f"{name}.new"))
+        for name in [*own, "nginx/codenav/users"]:
+            self.assertEqual(self.text(name).count("# changed\n"), 1, name)
+
+    def test_the_other_front(self) -> None:
+        """A front that wasn't changed is replaced by the other one."""
+        self.install("lua")
+        self.assertEqual(self.install("haproxy")[1:], [])
+        self.assertEqual(
+            self.text("nginx/conf.d/codenav.conf"), self.text("front/haproxy/codenav.conf")
+        )
+
 
 class LaidOut(unittest.TestCase):
     def setUp(self) -> None:
@@ -180,7 +262,8 @@ class LaidOut(unittest.TestCase):
             done = self.called(f"{self.folder}/link", name, "--help")
             self.assertEqual((done.returncode, done.stderr), (0, ""), name)
         said = self.called(f"{made}/usr/bin/codenav", "--version").stdout
-        self.assertIn(f"proved: {os.path.realpath(made)}/usr/{PACKAGED}\n", said)
+        known = "proved" if Program(self.program).is_proved() else "not known to be proved"
+        self.assertIn(f", {known}: {os.path.realpath(made)}/usr/{PACKAGED}\n", said)
         tried = self.called(f"{made}/usr/bin/codenav", "try-it")
         self.assertEqual(tried.returncode, 0, tried.stdout + tried.stderr)
         self.assertTrue(os.path.exists(f"{made}/usr/share/doc/codenav/OPERATE.md"))

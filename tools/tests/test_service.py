@@ -2,6 +2,7 @@
 back, turns, and each of them killed in between."""
 
 import os
+import shutil
 import signal
 import sqlite3
 import subprocess
@@ -9,19 +10,23 @@ import tempfile
 import threading
 import time
 import unittest
+from contextlib import suppress
 from typing import Callable
 
 from codenav.client.http import address, request
 from codenav.program import free_port
+from codenav.service.copies import NAME
 from codenav.service.folder import Serving, database_at, serving_of, side_of
 from codenav.service.standing import state_of
 from tests.fronts import Front, fronted, lacking
-from tests.servers import command, program
+from tests.servers import command, free_row, program
 from tests.test_fronts import HOVER
 from tests.test_uploads import DUMP
 
 SECONDS = 30
 TICK = 0.02
+# a user without rights
+NOBODY = 65534
 # Python reads it first: a copy of a file says that it begins, and waits, so that who copies is
 # killed in the midst of it.
 SLOW = """import os, time
@@ -42,15 +47,17 @@ class OnService(unittest.TestCase):
         self.base = self.enterContext(tempfile.TemporaryDirectory())
         self.folder, self.copies = f"{self.base}/service", f"{self.base}/copies"
         os.mkdir(self.folder)
-        self.port, self.second = free_port(), free_port()
+        self.port = free_row(3)
         os.mkdir(f"{self.base}/slow")
         with open(f"{self.base}/slow/sitecustomize.py", "w", encoding="utf-8") as script:
             script.write(SLOW.format(path=f"{self.base}/copying"))
 
-    def launched(self, tool: str, *words: str, is_slow: bool = False) -> "subprocess.Popen[str]":
-        """A tool that's called as users do."""
+    def launched(
+        self, tool: str, *words: str, is_slow: bool = False, by: tuple[str, ...] = ()
+    ) -> "subprocess.Popen[str]":
+        """A tool that's called as users do, or by way of another program."""
         process = subprocess.Popen(
-            [*command(tool), *words],
+            [*by, *command(tool), *words],
             env={**os.environ, **({"PYTHONPATH": f"{self.base}/slow"} if is_slow else {})},
             stdin=subprocess.DEVNULL,
             stdout=subprocess.PIPE,
@@ -68,9 +75,9 @@ class OnService(unittest.TestCase):
             if stream is not None:
                 stream.close()
 
-    def called(self, tool: str, *words: str) -> tuple[int, str]:
+    def called(self, tool: str, *words: str, by: tuple[str, ...] = ()) -> tuple[int, str]:
         """The status of a tool, and what it printed."""
-        done = self.launched(tool, *words)
+        done = self.launched(tool, *words, by=by)
         said, warned = done.communicate(timeout=SECONDS)
         return done.returncode, said + warned
 
@@ -82,8 +89,7 @@ class OnService(unittest.TestCase):
         return process
 
     def supervised(self, *words: str, is_slow: bool = False) -> "subprocess.Popen[str]":
-        ports = ["--port", str(self.port), "--second-port", str(self.second)]
-        given = ["--program", self.program, *ports, *words, self.folder]
+        given = ["--program", self.program, "--port", str(self.port), *words, self.folder]
         return self.launched("supervise", *given, is_slow=is_slow)
 
     def until(self, is_so: Callable[[], bool]) -> None:
@@ -94,19 +100,10 @@ class OnService(unittest.TestCase):
             time.sleep(TICK)
 
     def url(self) -> str:
-        return f"http://127.0.0.1:{self.second if side_of(self.folder) == 'b' else self.port}"
+        return f"http://127.0.0.1:{self.port}"
 
     def answers(self) -> bool:
         return request(f"{self.url()}/projects", seconds=5).status == 200
-
-    def ports(self) -> list[str]:
-        """Which of the service's ports answer."""
-        ports = {"--port": self.port, "--second-port": self.second}
-        return [
-            name
-            for name, port in ports.items()
-            if request(f"http://127.0.0.1:{port}/projects", seconds=5).status == 200
-        ]
 
     def put(self, text: str, key: str, url: str = "") -> bytes:
         """What an upload of a dump whose hover says the text is answered."""
@@ -242,6 +239,7 @@ class Starts(OnService):
             holder.stdout.readline()
             waiting = self.supervised()
             self.says(waiting, is_said)
+            time.sleep(2.5)
             self.assertIsNone(waiting.poll())
             holder.terminate()
             holder.communicate()
@@ -249,6 +247,19 @@ class Starts(OnService):
             self.assertEqual(self.hover(), b'{"contents":"one"}')
             status, said = self.ended(waiting)
             self.assertEqual(status, 0, said)
+            self.assertLessEqual(said.count(": codenav: "), 1, "it's said once")
+
+    def test_a_second_service(self) -> None:
+        """It waits until the first one has ended, and leaves what's known of that as it is."""
+        first = self.service()
+        known = self.known()
+        second = self.supervised()
+        self.says(second, f"{self.folder} is served by process {first.pid}")
+        self.assertEqual(self.known(), known)
+        self.assertEqual(self.called("turn", self.folder)[0], 0)
+        self.ended(first)
+        self.until(lambda: getattr(serving_of(self.folder), "supervisor", 0) == second.pid)
+        self.until(self.answers)
 
     def says(self, process: "subprocess.Popen[str]", text: str) -> None:
         """Waits until a line of a service has a text."""
@@ -263,8 +274,9 @@ class Starts(OnService):
 
 
 class Copies(OnService):
-    def backup(self, *words: str) -> tuple[int, str]:
-        return self.called("backup", "--program", self.program, *words, self.folder, self.copies)
+    def backup(self, *words: str, by: tuple[str, ...] = ()) -> tuple[int, str]:
+        given = ["--program", self.program, *words, self.folder, self.copies]
+        return self.called("backup", *given, by=by)
 
     def names(self) -> list[str]:
         return sorted(os.listdir(self.copies)) if os.path.isdir(self.copies) else []
@@ -291,35 +303,139 @@ class Copies(OnService):
         status, said = self.called("restore", copy, self.folder)
         self.assertEqual((status, "the copy changed" in said), (2, True))
 
-    def test_the_port(self) -> None:
-        """A side has its port: a turn without a front stays on it, and each restore goes to the
-        other side."""
+    def test_a_server_whose_files_are_hidden(self) -> None:
+        """In another space of users, as a unit with PrivateUsers is, the open files of a process
+        aren't seen; the server is found all the same, and stands while it's copied."""
+        hidden = ("unshare", "--user", "--map-root-user")
+        if subprocess.run([*hidden, "true"], check=False, capture_output=True).returncode != 0:
+            self.skipTest("no space of users can be made here")
+        self.service()
+        self.put("one", "k")
+        server = self.known().server
+        words = ["--program", self.program, self.folder, self.copies]
+        copying = self.launched("backup", *words, is_slow=True, by=hidden)
+        self.until(lambda: self.stands() or copying.poll() is not None)
+        self.assertEqual((state_of(server), copying.poll()), ("T", None))
+        copying.kill()
+        self.until(lambda: state_of(server) == "S")
+        status, said = self.backup(by=hidden)
+        self.assertEqual((status, len(self.copied())), (0, 1), said)
+
+    def test_one_address(self) -> None:
+        """Whoever asks the server asks one port after any number of turns and restores."""
         process = self.service()
-        self.assertEqual(self.ports(), ["--port"])
+        self.put("one", "k")
         self.assertEqual(self.backup()[0], 0)
-        copy, server = f"{self.copies}/{self.copied()[0]}", self.known().server
-        self.assertEqual(self.called("turn", self.folder)[0], 0)
-        self.until(lambda: self.known().server != server and self.answers())
-        self.assertEqual(self.ports(), ["--port"])
-        for port in "--second-port", "--port":
+        for side in "b", "a", "b":
+            server = self.known().server
+            self.assertEqual(self.called("turn", self.folder)[0], 0)
+            self.until(lambda: self.known().server != server and self.answers())
             self.ended(process)
-            self.assertEqual(self.called("restore", copy, self.folder)[0], 0)
+            self.assertEqual(self.called("restore", self.copies, self.folder)[0], 0)
             process = self.service()
-            self.assertEqual(self.ports(), [port])
+            self.assertEqual((self.known().side, self.hover()), (side, b'{"contents":"one"}'))
 
     def copied(self) -> list[str]:
         return [name for name in self.names() if name.endswith("Z")]
 
     def test_old_copies(self) -> None:
+        """The oldest go, and those that were made when the clock was ahead are the oldest; the one
+        that's just made stays, and is restored where no copy is named."""
         self.ended(self.service())
-        for year in 2001, 2002, 2003:
-            os.makedirs(f"{self.copies}/{year}0101T000000Z")
-            with open(f"{self.copies}/{year}0101T000000Z/index.db", "wb"):
-                pass
-        os.makedirs(f"{self.copies}/of-another-Z")
-        self.assertEqual(self.backup("--keep", "2")[0], 0)
-        self.assertEqual(self.names()[0], "20030101T000000Z")
-        self.assertIn("of-another-Z", self.names())
+        for years, keep, left in (
+            ((2001, 2002, 2003), 2, [2003]),
+            ((2001, 2931, 2932), 2, [2001]),
+            ((2931, 2932), 2, [2932]),
+            ((2931, 2932), 1, []),
+        ):
+            shutil.rmtree(self.copies, ignore_errors=True)
+            old = [f"{year}0101T000000Z" for year in years]
+            for name in old:
+                os.makedirs(f"{self.copies}/{name}")
+                with open(f"{self.copies}/{name}/index.db", "wb"):
+                    pass
+            os.makedirs(f"{self.copies}/of-another-Z")
+            self.assertEqual(self.backup("--keep", str(keep))[0], 0)
+            found = self.copied()
+            self.assertIn("of-another-Z", found)
+            new = [name for name in found if name not in [*old, "of-another-Z"]]
+            self.assertEqual(len(new), 1, years)
+            self.assertEqual([int(name[:4]) for name in found if name in old], left)
+            status, said = self.called("restore", self.copies, self.folder)
+            text = f"{self.folder} has the copy {self.copies}/{new[0]}\n"
+            self.assertEqual((status, said), (0, text))
+
+    def test_copies_of_one_second(self) -> None:
+        """Where the names of these seconds are taken, a copy has that of the next second."""
+        self.ended(self.service())
+        begin = time.time()
+        taken = [time.strftime(NAME, time.gmtime(begin + later)) for later in range(8)]
+        for name in taken:
+            os.makedirs(f"{self.copies}/{name}/of-another")
+        status, said = self.backup()
+        self.assertEqual((status, len(self.copied())), (0, len(taken) + 1), said)
+
+    def test_copies_that_are_not_whole(self) -> None:
+        """A copy whose digest, log or database's end is missing isn't put back."""
+        self.service()
+        self.put("one", "k")
+        for name, said_of in (
+            ("index.db.digest", "no index.db.digest, so it can't be known whether it's whole"),
+            ("index.db-wal", "the copy changed since it was made"),
+            ("index.db", "the copy changed since it was made"),
+        ):
+            self.assertEqual(self.backup()[0], 0)
+            copy = f"{self.copies}/{self.copied()[-1]}"
+            if name == "index.db":
+                os.truncate(f"{copy}/{name}", 4096)
+            else:
+                os.unlink(f"{copy}/{name}")
+            other = f"{self.base}/{name}"
+            status, said = self.called("restore", copy, other)
+            self.assertEqual((status, said), (2, f"codenav restore: {copy}: {said_of}\n"))
+            self.assertFalse(os.path.exists(other))
+
+    def test_copies_that_root_makes(self) -> None:
+        """What root copies and puts back belongs to the service's user, who makes the next copy."""
+        if os.getuid() != 0:
+            self.skipTest("this isn't root")
+        self.ended(self.service())
+        os.chmod(self.base, 0o755)
+        for path in self.folder, f"{self.folder}/a", *self.files(f"{self.folder}/a"):
+            os.chown(path, NOBODY, NOBODY)
+        shutil.rmtree(self.copies, ignore_errors=True)
+        os.unlink(f"{self.folder}/lock")
+        user = ("setpriv", f"--reuid={NOBODY}", f"--regid={NOBODY}", "--clear-groups")
+        for by in (), user, user:
+            status, said = self.backup("--keep", "2", by=by)
+            self.assertEqual((status, said.count("Permission denied")), (0, 0), said)
+        copy = f"{self.copies}/{self.copied()[0]}"
+        self.assertEqual(len(self.copied()), 2)
+        self.assertEqual(self.called("restore", copy, self.folder)[0], 0)
+        made = [*self.files(self.folder), *self.files(self.copies)]
+        self.assertGreater(len(made), 8)
+        known = {path: os.stat(path).st_uid for path in made if not path.endswith("/server")}
+        self.assertEqual(set(known.values()), {NOBODY}, known)
+
+    def files(self, folder: str) -> list[str]:
+        """All that's in a folder, with it."""
+        return [folder] + [
+            os.path.join(at, name)
+            for at, folders, names in os.walk(folder)
+            for name in [*folders, *names]
+        ]
+
+    def test_a_restore_without_room(self) -> None:
+        """The database stays as it is, and nothing is left of the copy."""
+        process = self.service()
+        self.put("one", "k")
+        self.assertEqual(self.backup()[0], 0)
+        self.ended(process)
+        before = self.files(self.folder)
+        copy = f"{self.copies}/{self.copied()[0]}"
+        status, said = self.called("restore", copy, self.folder, by=("prlimit", "--fsize=4096"))
+        self.assertEqual((status, said.count("\n")), (2, 1), said)
+        self.assertEqual(self.files(self.folder), before)
 
     def test_a_backup_that_is_killed(self) -> None:
         """The server goes on, no copy is there, and the next backup is made."""
@@ -376,9 +492,10 @@ class Turns(OnService):
         why = lacking("lua")
         if why:
             self.skipTest(why)
-        servers = [f"127.0.0.1:{self.port}", f"127.0.0.1:{self.second}"]
+        servers = [f"127.0.0.1:{self.port + 1}", f"127.0.0.1:{self.port + 2}"]
         os.mkdir(f"{self.base}/front")
-        self.front: Front = self.enterContext(fronted("lua", f"{self.base}/front", servers))
+        front = fronted("lua", f"{self.base}/front", servers, asked=self.port)
+        self.front: Front = self.enterContext(front)
         self.local = f"http://127.0.0.1:{self.front.local}"
 
     def test_turns(self) -> None:
@@ -397,10 +514,10 @@ class Turns(OnService):
 
         writing = threading.Thread(target=write)
         writing.start()
-        for side, port in ("b", "--second-port"), ("a", "--port"):
+        for side in "b", "a":
             status, said = self.called("turn", self.folder)
             self.assertEqual((status, side_of(self.folder)), (0, side), said)
-            self.assertEqual(self.ports(), [port])
+            self.assertTrue(self.answers())
             self.assertFalse(os.path.exists(database_at(self.folder, "ab".replace(side, ""))))
             count = len(answers)
             self.until(lambda: len(answers) > count + 3)
@@ -447,13 +564,33 @@ class Turns(OnService):
         nothing changes."""
         status, said = self.called("turn", self.folder)
         self.assertEqual((status, said.count("\n")), (2, 1))
+        port, self.port = self.port, free_port()
         process = self.service()
         self.assertEqual(self.called("turn", self.folder)[0], 0)
         self.ended(process)
+        self.port = port
         self.service("--front", f"http://127.0.0.1:{free_port()}")
         for _ in range(2):
             status, said = self.called("turn", self.folder)
             self.assertEqual((status, "no turn: " in said, self.answers()), (1, True, True), said)
+
+    def test_a_full_disk(self) -> None:
+        """No turn is taken, who asked for one is told so at once, and the service goes on."""
+        words = ["mount", "-t", "tmpfs", "-o", "size=8m", "codenav", self.folder]
+        if subprocess.run(words, check=False, capture_output=True).returncode != 0:
+            self.skipTest("no file system can be mounted here")
+        self.addCleanup(subprocess.run, ["umount", "--lazy", self.folder], check=True)
+        process = self.service("--front", self.local)
+        with open(f"{self.folder}/full", "wb", buffering=0) as file:
+            with suppress(OSError):
+                while file.write(bytes(1 << 12)):
+                    pass
+        for _ in range(2):
+            status, said = self.called("turn", self.folder)
+            self.assertEqual((status, "No space left" in said), (1, True), said)
+        os.unlink(f"{self.folder}/full")
+        self.assertEqual(self.called("turn", self.folder)[0], 0)
+        self.ended(process)
 
     def test_a_turn_that_finds_no_room(self) -> None:
         """Where the other side can't be made the server goes on, and writes too; the next turn is
@@ -464,15 +601,15 @@ class Turns(OnService):
             pass
         for _ in range(2):
             status, said = self.called("turn", self.folder)
-            self.assertEqual((status, said), (1, f"no turn: {self.folder}/b: File exists\n"))
-        self.assertEqual((self.known().server, self.ports()), (server, ["--port"]))
+            self.assertEqual((status, said), (1, f"no turn: {self.folder}/b: Not a directory\n"))
+        self.assertEqual((self.known().server, self.known().side), (server, "a"))
         begin = time.monotonic()
         path = "/projects/app/lsif?key=k"
         self.assertEqual(self.front.ask("PUT", path, (DUMP % "one").encode())[0], 200)
         self.assertLess(time.monotonic() - begin, 5)
         os.unlink(f"{self.folder}/b")
         self.assertEqual(self.called("turn", self.folder)[0], 0)
-        self.assertEqual(self.ports(), ["--second-port"])
+        self.assertEqual(self.known().side, "b")
 
 
 if __name__ == "__main__":

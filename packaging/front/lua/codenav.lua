@@ -2,6 +2,7 @@
 -- writes can be held while one server takes the place of another.
 local M = {}
 local LONGEST, PAUSE = 600, 0.2
+local AWAY = 2
 local METHODS = {
     GET = ngx.HTTP_GET, HEAD = ngx.HTTP_HEAD, PUT = ngx.HTTP_PUT, DELETE = ngx.HTTP_DELETE,
     POST = ngx.HTTP_POST, PATCH = ngx.HTTP_PATCH, OPTIONS = ngx.HTTP_OPTIONS, TRACE = ngx.HTTP_TRACE,
@@ -24,18 +25,49 @@ local function answer(status, text)
     ngx.print(text)
 end
 
+-- Counts what's under way. Each worker has a count of its own, which is void when it was killed.
+local function add(what, count)
+    shared:incr(what .. ":" .. ngx.worker.pid(), count, 0)
+end
+
+local function under_way(what)
+    local sum = 0
+    for _, key in ipairs(shared:get_keys(0)) do
+        local worker = key:match("^" .. what .. ":(%d+)$")
+        local file = worker and io.open("/proc/" .. worker .. "/stat")
+        if file then
+            file:close()
+            sum = sum + shared:get(key)
+        elseif worker then
+            shared:delete(key)
+        end
+    end
+    return sum
+end
+
 -- The name of the upstream that's in use.
 local function side_now()
     return "codenav_" .. shared:get("side")
 end
 
+-- Whether a reply is the server's own, and whole: nginx answers 502 and 504 where it has none. To
+-- HEAD there's a length without a body, which nginx calls cut.
+local function is_whole(reply, method)
+    if reply.status == 502 or reply.status == 504 then return false end
+    return not reply.truncated or method == ngx.HTTP_HEAD
+end
+
 -- One try. A write counts as under way before it looks whether writes are held, so who holds them
--- and then sees none under way knows that none begins.
+-- and then sees none under way knows that none begins. While a server is away, one request of those
+-- for it looks whether it's there again, so that nginx doesn't log each of them over and over.
 local function try(method, is_write)
+    local away = "away:" .. (ngx.var.codenav_shard or "")
+    if is_write and shared:get("held") then return nil end
+    if shared:get(away) and not shared:add("look:" .. away, true, PAUSE) then return nil end
     if is_write then
-        shared:incr("writes", 1, 0)
+        add("writes", 1)
         if shared:get("held") then
-            shared:incr("writes", -1)
+            add("writes", -1)
             return nil
         end
     end
@@ -47,16 +79,13 @@ local function try(method, is_write)
         vars = { codenav_side = side_now() },
     }
     shared:incr("asked", 1, 0)
+    local begin = ngx.now()
     local reply = ngx.location.capture("/-server-", options)
-    if is_write then shared:incr("writes", -1) end
+    ngx.update_time()
+    ngx.var.codenav_seconds = ("%.3f"):format(ngx.now() - begin)
+    if is_write then add("writes", -1) end
+    if is_whole(reply, method) then shared:delete(away) else shared:set(away, true, AWAY) end
     return reply
-end
-
--- Whether a reply is the server's own, and whole: nginx answers 502 and 504 where it has none. To
--- HEAD there's a length without a body, which nginx calls cut.
-local function is_whole(reply, method)
-    if not reply or reply.status == 502 or reply.status == 504 then return false end
-    return not reply.truncated or method == ngx.HTTP_HEAD
 end
 
 -- The whole reply to this request, or nil where none came in so many seconds, or the client has
@@ -68,9 +97,9 @@ local function reply_within(method, is_write, seconds)
     repeat
         local reply = try(method, is_write)
         tries = tries + (reply and 1 or 0)
-        if is_whole(reply, method) then return reply, tries end
+        if reply and is_whole(reply, method) then return reply, tries end
         if tries == 1 and reply then
-            ngx.log(ngx.NOTICE, "codenav: no whole reply, so sent again: ", ngx.var.request_uri)
+            ngx.log(ngx.ERR, "codenav: no whole reply, so sent again: ", ngx.var.request_uri)
         end
         ngx.sleep(reply and PAUSE or PAUSE / 10)
         ngx.update_time()
@@ -83,12 +112,13 @@ function M.serve()
     local name = ngx.req.get_method()
     local method = METHODS[name]
     if not method then return answer(405, '{"fault":"H07","text":"method not allowed"}') end
-    shared:incr("waiting", 1, 0)
+    add("waiting", 1)
     local reply, tries = reply_within(method, name == "PUT" or name == "DELETE", LONGEST)
-    shared:incr("waiting", -1)
+    add("waiting", -1)
     ngx.var.codenav_tries = tries
     if tries > 1 then shared:incr("again", tries - 1, 0) end
     if not reply then return ngx.exit(503) end
+    if reply.status >= 400 then ngx.var.codenav_fault = reply.body:match('"fault":"(%w+)"') or "" end
     if reply.status == 503 then shared:incr("refused", 1, 0) end
     ngx.status = reply.status
     ngx.header["Content-Type"] = reply.header["Content-Type"]
@@ -124,7 +154,7 @@ function M.metrics()
     ngx.say("codenav_request_seconds_total ", shared:get("seconds") or 0)
     ngx.say("codenav_sent_again_total ", shared:get("again") or 0)
     ngx.say("codenav_store_or_memory_refused_total ", shared:get("refused") or 0)
-    ngx.say("codenav_waiting ", shared:get("waiting") or 0)
+    ngx.say("codenav_waiting ", under_way("waiting"))
     ngx.say("codenav_writes_held ", shared:get("held") and 1 or 0)
 end
 
@@ -157,7 +187,7 @@ function M.command()
     local status = command() and 200 or 409
     answer(status, ('{"asked":%d,"held":%s,"side":"%s","was_held":%s,"writes":%d}'):format(
         shared:get("asked") or 0, tostring(shared:get("held") == true), shared:get("side"),
-        tostring(was_held), shared:get("writes") or 0))
+        tostring(was_held), under_way("writes")))
 end
 
 return M

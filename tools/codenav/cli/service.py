@@ -27,7 +27,6 @@ class SuperviseCall:
 
     program: str = ""
     port: int = 8090
-    second_port: int = 0
     requests: int = REQUESTS
     front: str = ""
     folder: str = ""
@@ -36,8 +35,8 @@ class SuperviseCall:
 def add_supervise(parser: argparse.ArgumentParser) -> None:
     """The words of `supervise`."""
     parser.add_argument("--program", metavar="PROGRAM", help=PROGRAM)
-    parser.add_argument("--port", type=int, metavar="N", help="of the first side; 8090")
-    parser.add_argument("--second-port", type=int, metavar="N", help="of the second; the next one")
+    said = "the one that's asked; 8090. With --front the front has it, and the sides the next two"
+    parser.add_argument("--port", type=int, metavar="N", help=said)
     parser.add_argument("--requests", type=int, metavar="N", help="of a run; 1000000")
     parser.add_argument(
         "--front", metavar="URL", help="the front's own port, as http://127.0.0.1:8089"
@@ -51,7 +50,7 @@ def supervise(call: SuperviseCall) -> int:
     """Runs a service."""
     if not os.path.isdir(call.folder):
         raise BadCall(f"{call.folder}: no such folder")
-    ports = call.port, call.second_port or call.port + 1
+    ports = (call.port + 1, call.port + 2) if call.front else (call.port, call.port)
     how = How(Program.needed(call.program), ports, call.requests)
     front = server_of(call.front) if call.front else None
     return Supervisor(call.folder, how, front, Shown("codenav supervise")).run()
@@ -115,14 +114,15 @@ class RestoreCall:
 
 def add_restore(parser: argparse.ArgumentParser) -> None:
     """The words of `restore`."""
-    parser.add_argument("copy", metavar="COPY", help="a folder that backup made")
+    said = "a folder that backup made, or that of the copies, for the newest"
+    parser.add_argument("copy", metavar="COPY", help=said)
     parser.add_argument("folder", metavar="FOLDER", help=FOLDER)
 
 
 def put_back(call: RestoreCall) -> int:
     """Puts a copy in place, and says so."""
-    restore(call.copy, call.folder)
-    print(f"{call.folder} has the copy {call.copy}")
+    copy = restore(call.copy, call.folder)
+    print(f"{call.folder} has the copy {copy}")
     return 0
 
 

@@ -13,12 +13,22 @@ from typing import NamedTuple
 from codenav.faults import BadCall
 from codenav.program import Program
 from codenav.service import digests
-from codenav.service.folder import DATABASE, database_at, locked, other, serving_of, side_of, use
+from codenav.service.folder import (
+    DATABASE,
+    database_at,
+    give,
+    locked,
+    other,
+    serving_of,
+    side_of,
+    use,
+)
 from codenav.service.locks import UNSEEN, holder_of
 from codenav.service.standing import copied, copy_file, emptied, has_database, settled
 
 NAME = "%Y%m%dT%H%M%SZ"
 UNFINISHED = ".unfinished"
+PAUSE = 0.1
 
 
 class Copy(NamedTuple):
@@ -30,9 +40,19 @@ class Copy(NamedTuple):
 
 
 def copies(target: str) -> list[str]:
-    """The names of the copies, the oldest first."""
+    """The names of the copies, the oldest first: those that are named by a time that's still to
+    come were made when the clock was ahead, so they're older than the others are."""
+    now = time.strftime(NAME, time.gmtime())
     names = (name for name in os.listdir(target) if name.endswith("Z") and name[0] != ".")
-    return sorted(name for name in names if has_database(os.path.join(target, name)))
+    found = (name for name in names if has_database(os.path.join(target, name)))
+    return sorted(found, key=lambda name: (name <= now, name))
+
+
+def unused(target: str) -> str:
+    """A folder for a copy, which has the name of a second that no other has."""
+    while os.path.lexists(path := os.path.join(target, time.strftime(NAME, time.gmtime()))):
+        time.sleep(PAUSE)
+    return path
 
 
 def copied_now(folder: str, new: str) -> float:
@@ -49,19 +69,25 @@ def copied_now(folder: str, new: str) -> float:
 
 def backup(program: Program, folder: str, target: str, keep: int) -> Copy:
     """Makes a copy, and removes the oldest of those that are too many. The start over the copy
-    reads and checks all of it, with no request. Raises BadCall."""
-    os.makedirs(target, mode=0o700, exist_ok=True)
+    reads and checks all of it, with no request. What root makes belongs to who has the folder.
+    Raises BadCall."""
+    if not os.path.isdir(target):
+        os.makedirs(target, mode=0o700)
+        give(target, folder)
     new = os.path.join(target, UNFINISHED)
     with locked(target):
         emptied(new)
+        give(new, target)
         try:
             stood = copied_now(folder, new)
             tried = program.called("replay", os.path.join(new, DATABASE), os.devnull)
             if tried.status != 0:
                 raise BadCall(f"the copy is refused: {tried.warned.strip()}")
             digests.keep(os.path.join(new, DATABASE))
+            for name in os.listdir(new):
+                give(os.path.join(new, name), target)
             settled(new)
-            made = os.path.join(target, time.strftime(NAME, time.gmtime()))
+            made = unused(target)
             os.rename(new, made)
         finally:
             shutil.rmtree(new, ignore_errors=True)
@@ -76,31 +102,48 @@ def put(copy: str, folder: str) -> None:
     stays beside until the next call."""
     old = side_of(folder)
     target, before = os.path.join(folder, other(old)), os.path.join(folder, "before")
-    emptied(target)
-    for path in digests.files_of(os.path.join(copy, DATABASE)):
-        copy_file(path, os.path.join(target, os.path.basename(path)))
-    owner = os.stat(folder)
-    for path in [target, *digests.files_of(os.path.join(target, DATABASE))]:
-        os.chown(path, owner.st_uid, owner.st_gid)
-        os.chmod(path, 0o700 if path == target else 0o600)
-    settled(target)
-    use(folder, other(old))
-    os.chown(os.path.join(folder, "side"), owner.st_uid, owner.st_gid)
+    try:
+        emptied(target)
+        for path in digests.files_of(os.path.join(copy, DATABASE)):
+            copy_file(path, os.path.join(target, os.path.basename(path)))
+        for path in [target, *digests.files_of(os.path.join(target, DATABASE))]:
+            give(path, folder)
+            os.chmod(path, 0o700 if path == target else 0o600)
+        settled(target)
+        use(folder, other(old))
+    except OSError:
+        if side_of(folder) == old:
+            shutil.rmtree(target, ignore_errors=True)
+        raise
+    give(os.path.join(folder, "side"), folder)
     shutil.rmtree(before, ignore_errors=True)
     if os.path.isdir(os.path.join(folder, old)):
         os.rename(os.path.join(folder, old), before)
 
 
-def restore(copy: str, folder: str) -> None:
-    """Puts a copy that's as it was when it was made in the place of a service's database. Raises
-    BadCall."""
-    if not has_database(copy):
-        raise BadCall(f"{copy}: no copy of a database")
-    if digests.difference(os.path.join(copy, DATABASE)):
-        raise BadCall(f"{copy}: the copy changed since it was made")
+def found(path: str) -> str:
+    """A copy that's as it was when it was made, by its folder, or by that of the copies, whose
+    newest it is then. Raises BadCall."""
+    if not has_database(path) and os.path.isdir(path) and (names := copies(path)):
+        path = os.path.join(path, names[-1])
+    database = os.path.join(path, DATABASE)
+    if not has_database(path):
+        raise BadCall(f"{path}: no copy of a database")
+    if not os.path.exists(database + digests.ENDING):
+        name = DATABASE + digests.ENDING
+        raise BadCall(f"{path}: no {name}, so it can't be known whether it's whole")
+    if digests.difference(database):
+        raise BadCall(f"{path}: the copy changed since it was made")
+    return path
+
+
+def restore(path: str, folder: str) -> str:
+    """Puts a copy in the place of a service's database, and answers which. Raises BadCall."""
+    copy = found(path)
     os.makedirs(folder, mode=0o700, exist_ok=True)
     with locked(folder):
         database = database_at(folder, side_of(folder))
         if serving_of(folder) or holder_of(database) is not None:
             raise BadCall(f"{folder}: stop the service first")
         put(copy, folder)
+    return copy

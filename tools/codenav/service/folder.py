@@ -73,9 +73,14 @@ def synced(path: str) -> None:
 
 
 def note(folder: str, serving: Serving) -> None:
-    """Says who serves."""
-    with whole_file(os.path.join(folder, "server")) as out:
-        out.write(json.dumps(asdict(serving)).encode() + b"\n")
+    """Says who serves; where the disk has no room for a file, in the room of the one before."""
+    path, text = os.path.join(folder, "server"), json.dumps(asdict(serving)).encode() + b"\n"
+    try:
+        with whole_file(path) as out:
+            out.write(text)
+    except OSError:
+        with open(path, "r+b", buffering=0) as file:
+            file.write(text.ljust(os.path.getsize(path)))
 
 
 def serving_of(folder: str) -> Optional[Serving]:
@@ -88,24 +93,41 @@ def serving_of(folder: str) -> Optional[Serving]:
     return found if is_of(found.supervisor, folder) else None
 
 
-def is_of(process: int, folder: str) -> bool:
-    """Whether a process is there, and its command line names the folder."""
+def is_of(process: int, path: str) -> bool:
+    """Whether a process is there, and its command line names a folder or a file."""
     try:
         with open(f"/proc/{process}/cmdline", "rb") as file:
-            words = file.read().split(b"\0")
+            words = [os.fsdecode(word) for word in file.read().split(b"\0") if word]
     except OSError:
         return False
-    wanted = os.path.realpath(folder)
-    paths = (os.path.join(f"/proc/{process}/cwd", os.fsdecode(word)) for word in words if word)
-    return any(os.path.realpath(path) == wanted for path in paths)
+    wanted = os.path.realpath(path)
+    return any(place_of(process, word) == wanted for word in words)
+
+
+def place_of(process: int, word: str) -> str:
+    """Where a word of a process leads as a path, or an empty text where its own folder, which a
+    word that isn't whole begins at, may not be seen."""
+    try:
+        return os.path.realpath(os.path.join(f"/proc/{process}/cwd", word))
+    except OSError:
+        return ""
+
+
+def give(path: str, like: str) -> None:
+    """Has what root made belong to who has another path."""
+    if os.geteuid() == 0:
+        owner = os.stat(like)
+        os.chown(path, owner.st_uid, owner.st_gid)
 
 
 @contextmanager
 def locked(folder: str) -> Iterator[None]:
     """Keeps others from starting, copying or replacing the database; the system lets go where the
     process is killed."""
-    handle = os.open(os.path.join(folder, "lock"), os.O_RDWR | os.O_CREAT | os.O_CLOEXEC, 0o600)
+    path = os.path.join(folder, "lock")
+    handle = os.open(path, os.O_RDWR | os.O_CREAT | os.O_CLOEXEC, 0o600)
     try:
+        give(path, folder)
         fcntl.flock(handle, fcntl.LOCK_EX)
         yield
     finally:

@@ -98,7 +98,8 @@ def settled(folder: str) -> None:
 
 def emptied(folder: str) -> None:
     """Makes a folder that's empty."""
-    shutil.rmtree(folder, ignore_errors=True)
+    if os.path.lexists(folder):
+        shutil.rmtree(folder)
     os.makedirs(folder, mode=0o700)
 
 

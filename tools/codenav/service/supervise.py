@@ -13,7 +13,7 @@ from typing import Optional, Union
 from codenav.program import Running
 from codenav.progress import Shows
 from codenav.service import digests
-from codenav.service.folder import Serving, database_at, locked, note, side_of
+from codenav.service.folder import Serving, database_at, locked, note, serving_of, side_of
 from codenav.service.front import NoFront, told
 from codenav.service.refusals import Refusal, refusal_by, refusal_of
 from codenav.service.turning import How, NotTurned, Turn
@@ -66,6 +66,10 @@ class Supervisor:
         """A server over the database in use, where that's as it was left, or why there's none."""
         try:
             with locked(self.folder):
+                known = serving_of(self.folder)
+                if known is not None and known.supervisor != os.getpid():
+                    text = f"{self.folder} is served by process {known.supervisor}"
+                    return Refusal(text, True)
                 self.side = side_of(self.folder)
                 database = database_at(self.folder, self.side)
                 os.makedirs(os.path.dirname(database), mode=0o700, exist_ok=True)
@@ -147,17 +151,20 @@ class Supervisor:
         has_served = server.listens()
         server.end()
         self.asked_before, said = -1, server.last_words()
-        for line in said.splitlines():
-            self.shows.warn(line)
+        refusal = None
+        if server.process.returncode == 2:
+            refusal = refusal_of(said.rpartition("\n")[2], server.database)
+        if refusal is None or refusal.text != self.refused:
+            for line in said.splitlines():
+                self.shows.warn(line)
         if has_served:
             try:
                 digests.keep(server.database)
             except OSError as fault:
                 self.shows.warn(f"no digest of {server.database} is kept: {fault.strerror}")
-        if server.process.returncode == 2:
-            return refusal_of(said.rpartition("\n")[2], server.database)
-        self.shows.warn(f"the server ended with status {server.process.returncode}")
-        return None
+        if refusal is None:
+            self.shows.warn(f"the server ended with status {server.process.returncode}")
+        return refusal
 
     def may_wait(self, refusal: Refusal) -> bool:
         """Says once why no server can be started; answers whether another try may help, and not a

@@ -30,7 +30,8 @@ class NotTurned(Exception):
 
 @dataclass(frozen=True)
 class How:
-    """How a server of a service is started: each side has its port."""
+    """How a server of a service is started: each side has its port, the same one where no turn is
+    taken."""
 
     program: Program
     ports: tuple[int, int]
