@@ -58,8 +58,8 @@ class Folder:
 
     def named(self, text: str) -> str:
         """The whole path that a name from the folder on means; raises Refused for one that leads
-        out of it."""
-        is_bad = bool(text) and bool({"", ".", ".."} & set(text.split("/")))
+        out of it, and for one with a part that begins with a dot."""
+        is_bad = bool(text) and any(part[:1] in ("", ".") for part in text.split("/"))
         if is_bad or self.inside(os.path.join(self.top, text)) is None:
             raise Refused(403, "not a path in the folder")
         return os.path.join(self.given, text)
@@ -88,19 +88,24 @@ class Folder:
             raise Refused(403, str(fault) if is_text else "not a text") from None
 
     def entries(self, at: str) -> list[Entry]:
-        """What stands in a folder, folders first; no name that begins with a dot, and no link that
-        leads out."""
+        """What stands in a folder, which is named with a slash behind it, folders first; no name
+        that begins with a dot, and no link that leads out or nowhere. Raises Refused."""
+        if at == "/" or at and not at.endswith("/"):
+            raise Refused(403, "not a path in the folder")
+        self.named(at[:-1])
         try:
             with os.scandir(os.path.join(self.top, at)) as found:
-                entries = [
-                    Entry(entry.name, entry.is_dir())
-                    for entry in found
-                    if not entry.name.startswith(".")
-                    and not (entry.is_symlink() and self.inside(entry.path) is None)
-                ]
+                entries = [Entry(one.name, os.path.isdir(one)) for one in found if self.lists(one)]
         except OSError:
             return []
         return sorted(entries, key=lambda entry: (not entry.is_folder, entry.name))
+
+    def lists(self, entry: os.DirEntry[str]) -> bool:
+        """Whether an entry of a folder is listed."""
+        if entry.name.startswith("."):
+            return False
+        is_there = not entry.is_symlink() or os.path.exists(entry)
+        return is_there and self.inside(entry.path) is not None
 
     def files(self) -> list[str]:
         """The names of all files, from the folder on; links to folders aren't followed. The list

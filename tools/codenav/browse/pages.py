@@ -12,6 +12,7 @@ from string import Template
 from typing import Any, Iterator
 
 from codenav.browse.colours import KINDS, MOST_CHARACTERS, coloured, lexer_of
+from codenav.browse.drawn import drawn, html
 from codenav.browse.folder import Entry, Folder, Refused, href
 from codenav.browse.view import View, unknown_words
 from codenav.texts.decoded import lines_in
@@ -33,7 +34,7 @@ def link(at: str, entry: Entry, shown: str, revision: str) -> str:
     own = f"{at}{entry.name}"
     current = ' aria-current="page"' if own == shown else ""
     label = f"{entry.name}/" if entry.is_folder else entry.name
-    return f'<a href="{escape(href(own, revision=revision))}"{current}>{escape(label)}</a>'
+    return f'<a href="{escape(href(own, revision=revision))}"{current}>{html(label)}</a>'
 
 
 def more(at: str, start: int, end: int, count: int) -> str:
@@ -81,7 +82,7 @@ def listed(folder: Folder, at: str, start: int, end: int, revision: str) -> list
 def text_in(line: str) -> str:
     """A line as HTML; what a browser would change when it reads the page is written so that it
     doesn't, or is replaced by one character."""
-    return escape(line, quote=False).replace("\r", "&#13;").replace("\0", "\ufffd")
+    return escape(drawn(line), quote=False).replace("\r", "&#13;").replace("\0", "\ufffd")
 
 
 def code(lines: list[str], name: str, revision: str) -> str:
@@ -118,10 +119,10 @@ def file_page(view: View, name: str, project: str, search: str) -> Iterator[str]
         content = code(lines, name, view.revision)
     top, bottom = template("page.html").template.split("$content")
     values = {
-        "title": escape(name or project),
+        "title": html(name or project),
         "project": escape(project),
         "home": escape(href("", revision=view.revision)),
-        "path": escape(name or project),
+        "path": html(name or project),
         "revision": f'<p class="revision">as of {escape(view.revision)} · <a href="{escape(href(name))}">today</a></p>'
         if view.revision
         else "",

@@ -9,6 +9,7 @@ from typing import Any, Callable
 from urllib.parse import parse_qsl, unquote_to_bytes
 
 from codenav.browse.answers import Browser, Parameters
+from codenav.browse.drawn import drawn
 from codenav.browse.folder import Refused
 from codenav.browse.pages import PAGE, error_page, file_page, listed
 from codenav.faults import BadCall
@@ -42,7 +43,6 @@ QUESTIONS: dict[str, Callable[[Browser, Parameters], Any]] = {
 def entries(browser: Browser, parameters: Parameters) -> dict[str, Any]:
     """Some entries of a folder."""
     at = parameters.get("at", "")
-    browser.folder.named(at.removesuffix("/"))
     bounds = [parameters.get(name, "") for name in ("start", "end")]
     if not all(bound.isdecimal() and len(bound) < 9 for bound in bounds):
         raise Refused(400, "bad parameter")
@@ -117,7 +117,8 @@ class Handler(BaseHTTPRequestHandler):
             with open(os.path.join(PAGE, path[1:]), "rb") as file:
                 return ASSETS[path], file.read()
         if path in QUESTIONS:
-            return JSON, json.dumps(QUESTIONS[path](self.browser, parameters)).encode()
+            text = json.dumps(QUESTIONS[path](self.browser, parameters), ensure_ascii=False)
+            return JSON, drawn(text).encode(errors="replace")
         raise Refused(404, "no such page")
 
     def answer_page(self, path: str, parameters: Parameters) -> None:
