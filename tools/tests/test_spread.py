@@ -353,7 +353,7 @@ class Called(OnServers):
         code, user = self.name_at(self.servers[0], "code"), self.name_at(self.servers[1], "user")
         servers = ",".join(self.servers)
         status, said, warned = self.publish(code, "crate", "--servers", servers)
-        line = f"uploaded {code}: a set at {self.servers[0]}, parts 1, kept 0, new 1, removed 0"
+        line = f"uploaded {code}: a set at {self.servers[0]}, parts 1, kept 0, new 1, removed 0, profile 1"
         self.assertEqual((status, said.splitlines()[:1]), (0, [line]), warned)
         self.settings(f"servers = {json.dumps(self.servers)}\n")
         self.assertEqual(self.publish(user, "user")[0], 0)

@@ -128,15 +128,15 @@ def tail_of(path: str) -> str:
 
 def end_group(process: "subprocess.Popen[bytes]") -> None:
     """Ends what is left of a process and of all that it started in its group: by SIGTERM, and after
-    some seconds by SIGKILL."""
+    some seconds by SIGKILL; waits up to its end."""
     with suppress(ProcessLookupError):
-        os.killpg(process.pid, signal.SIGTERM)
-        end = time.monotonic() + END_SECONDS
-        while time.monotonic() < end:
-            process.poll()
-            os.killpg(process.pid, 0)
-            time.sleep(POLL_SECONDS)
-        os.killpg(process.pid, signal.SIGKILL)
+        for number in signal.SIGTERM, signal.SIGKILL:
+            os.killpg(process.pid, number)
+            end = time.monotonic() + END_SECONDS
+            while time.monotonic() < end:
+                process.poll()
+                os.killpg(process.pid, 0)
+                time.sleep(POLL_SECONDS)
     process.wait()
 
 
