@@ -2,9 +2,8 @@
 
 import argparse
 import os
-from contextlib import contextmanager, suppress
 from dataclasses import dataclass, field, replace
-from typing import Iterator, Optional
+from typing import BinaryIO, Optional
 
 from codenav.cli.command import Command
 from codenav.cli.show import Shown
@@ -14,7 +13,7 @@ from codenav.dumps.prepare.plan import Options
 from codenav.dumps.prepare.prepare import prepare
 from codenav.dumps.scip.options import ScipOptions
 from codenav.faults import BadCall
-from codenav.files import of_file
+from codenav.files import new_beside, whole_file
 from codenav.limits import MOST_ELEMENTS
 from codenav.names import set_name
 from codenav.outcome import Outcome
@@ -165,8 +164,8 @@ def add_prepare(parser: argparse.ArgumentParser) -> None:
     )
 
 
-def whole(dump: Dump, call: PrepareCall, path: str, shows: Shows) -> Outcome:
-    """Writes the dump of what is read into a file; answers what came of it."""
+def whole(dump: Dump, call: PrepareCall, out: BinaryIO, shows: Shows) -> Outcome:
+    """Writes the dump of what is read; answers what came of it."""
     if isinstance(dump, Source):
         options = Options(
             call.strip,
@@ -178,11 +177,11 @@ def whole(dump: Dump, call: PrepareCall, path: str, shows: Shows) -> Outcome:
             call.report,
             call.profile,
         )
-        return prepare(dump, path, options, shows).outcome
+        return prepare(dump, out, options, shows)
     # loaded here: it needs a package that isn't needed for LSIF
     from codenav.dumps.scip.conversion import convert
 
-    return convert(dump, path, call.of_index(), shows).outcome
+    return convert(dump, out, call.of_index(), shows)
 
 
 def as_set(dump: Dump, call: PrepareCall, path: str, shows: Shows) -> SetFiles:
@@ -205,21 +204,6 @@ def as_set(dump: Dump, call: PrepareCall, path: str, shows: Shows) -> SetFiles:
     return split(dump, options, call.output, shows, call.of_index())
 
 
-@contextmanager
-def beside(target: str) -> Iterator[str]:
-    """A path beside a file for what may take its place, and goes where it doesn't. Faults have the
-    file's name."""
-    path = f"{os.path.realpath(target)}.{os.getpid()}.whole"
-    try:
-        yield path
-    except OSError as fault:
-        fault.filename = target if fault.filename == path else fault.filename
-        raise
-    finally:
-        with suppress(FileNotFoundError):
-            os.unlink(path)
-
-
 def said(outcome: Outcome) -> list[str]:
     """What's said of a dump that is no set."""
     return [*outcome.lines(), *([ADVICE] if outcome.over else [])]
@@ -229,19 +213,20 @@ def into_file(dump: Dump, call: PrepareCall, shows: Shows) -> tuple[list[str], b
     """Writes OUT: a dump, or a folder with a set. Answers what's said of it, and whether all of it
     is there and within the limits."""
     is_set = call.set or os.path.isfile(os.path.join(call.output, MANIFEST))
-    with beside(call.output) as path:
-        lines, is_whole = list[str](), True
-        if isinstance(dump, Source) or not is_set:
-            outcome = whole(dump, call, path, shows)
-            if not is_set and not outcome.is_too_large():
-                with of_file(call.output):
-                    os.replace(path, os.path.realpath(call.output))
-                return said(outcome), outcome.is_whole(call.lenient)
-            if isinstance(dump, Source):
-                lines = outcome.lines()
-                is_whole = replace(outcome, over=()).is_whole(call.lenient)
-        files = as_set(dump, call, path, shows)
-        return [*lines, *files.lines()], is_whole and files.reading.is_whole(call.lenient)
+    if is_set and not isinstance(dump, Source):
+        files = as_set(dump, call, "", shows)
+        return files.lines(), files.reading.is_whole(call.lenient)
+    with new_beside(call.output) as new:
+        outcome = whole(dump, call, new.out, shows)
+        if not is_set and not outcome.is_too_large():
+            new.put()
+            return said(outcome), outcome.is_whole(call.lenient)
+        new.out.flush()
+        files = as_set(dump, call, new.path, shows)
+    if not isinstance(dump, Source):
+        return files.lines(), files.reading.is_whole(call.lenient)
+    is_whole = replace(outcome, over=()).is_whole(call.lenient)
+    return [*outcome.lines(), *files.lines()], is_whole
 
 
 def run_prepare(call: PrepareCall) -> int:
@@ -256,7 +241,8 @@ def run_prepare(call: PrepareCall) -> int:
         elif call.set:
             raise BadCall(f"{call.output}: a set is a folder")
         else:
-            outcome = whole(dump, call, call.output, shows)
+            with whole_file(call.output) as out:
+                outcome = whole(dump, call, out, shows)
             lines, is_whole = said(outcome), outcome.is_whole(call.lenient)
     for line in lines:
         shows.warn(line)

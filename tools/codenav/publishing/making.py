@@ -17,6 +17,7 @@ from codenav.dumps.prepare.plan import Options
 from codenav.dumps.prepare.prepare import prepare
 from codenav.dumps.scip.options import ScipOptions
 from codenav.faults import BadCall, NotADump
+from codenav.files import whole_file
 from codenav.index.indexers import fitting, indexed, named
 from codenav.index.tags_file import LEFT_OUT as TAGS_LEFT_OUT
 from codenav.index.tags_file import tagged
@@ -142,19 +143,19 @@ class Making:
 
     def prepare(self, raw: str, out: str) -> Outcome:
         """Writes the dump that the server takes of a dump or an index."""
-        with opened_dump(raw) as source:
+        with opened_dump(raw) as source, whole_file(out) as file:
             if isinstance(source, Source):
                 profile = self.profile or "2"
                 options = Options(
                     strip=True, without=tuple(self.how.without), reports=True, profile=profile
                 )
-                outcome = prepare(source, out, options, self.shows).outcome
+                outcome = prepare(source, file, options, self.shows)
             elif self.how.without:
                 raise BadCall("--without is for dumps, and this is a SCIP index")
             else:
                 from codenav.dumps.scip.conversion import convert
 
-                outcome = convert(source, out, ScipOptions(self.folder), self.shows).outcome
+                outcome = convert(source, file, ScipOptions(self.folder), self.shows)
         for note in outcome.notes:
             if note.kind == MENDED:
                 self.shows.warn(str(note))

@@ -23,7 +23,13 @@ from codenav.faults import BadCall
 from codenav.limits import MOST_ELEMENTS
 from codenav.outcome import Outcome
 from codenav.progress import Shows
-from codenav.sets.files import MANIFEST, drop_others, put_manifest, read_head
+from codenav.sets.files import (
+    MANIFEST,
+    drop_others,
+    put_manifest,
+    read_head,
+    unchanged_at_fault,
+)
 from codenav.sets.manifest import DIGITS, DocumentEntry, Head, PartEntry
 from codenav.sets.split.crossing import Cut, Shared
 from codenav.sets.split.cuts import TooLarge, planned
@@ -217,23 +223,23 @@ def split_given(given: Given, options: SplitOptions, folder: str, shows: Shows) 
     tags = CutTags([b""] * cut.parts)
     if options.tags:
         tags = cut_tags(options.tags, options.tags_folder, maps, firsts)
-    os.makedirs(folder, exist_ok=True)
-    writer = Writer(cut, options.name, options.profile, given.hovers, folder, tags.bodies)
-    written = list(writer.write_all(options.jobs or len(os.sched_getaffinity(0))))
-    documents = documents_of(cut, written, maps)
-    parts = tuple(
-        PartEntry(part.project, part.elements, first) for part, first in zip(written, firsts)
-    )
-    head = Head(
-        options.name,
-        options.revision,
-        "; ".join(options.maps),
-        len(documents),
-        profile=options.profile,
-        parts=parts,
-    )
-    head = put_manifest(folder, head, documents)
-    drop_others(folder, head)
+    with unchanged_at_fault(folder, options.name):
+        writer = Writer(cut, options.name, options.profile, given.hovers, folder, tags.bodies)
+        written = list(writer.write_all(options.jobs or len(os.sched_getaffinity(0))))
+        documents = documents_of(cut, written, maps)
+        parts = tuple(
+            PartEntry(part.project, part.elements, first) for part, first in zip(written, firsts)
+        )
+        head = Head(
+            options.name,
+            options.revision,
+            "; ".join(options.maps),
+            len(documents),
+            profile=options.profile,
+            parts=parts,
+        )
+        head = put_manifest(folder, head, documents)
+    drop_others(folder, head.name, head.projects())
     flat, hidden = cut.flat, len(cut.shared.hidden)
     return SetFiles(
         folder,
