@@ -256,7 +256,7 @@ class Room:
             process = started(
                 self.library,
                 (number, which, str(self.log)),
-                self.word.elements,
+                MOST if words[0] == "prepare" else self.word.elements,
                 self.given(words),
                 env,
                 (said, warned),
@@ -298,7 +298,8 @@ class Room:
                 again = self.call(self.word.words)
                 if again.status not in self.word.again:
                     raise Wrong(f"the same again: {again.status}, {again.warned}")
-                self.judge_whole(self.state(), which == KILL, "the same again: ")
+                stays = which == KILL or may_stay(ended.calls)
+                self.judge_whole(self.state(), stays, "the same again: ")
             except Wrong as fault:
                 how = "killed at" if which == KILL else f"refused by error {which}"
                 raise Wrong(f"{number} {call}: {how}: {fault}; {ended.warned[-300:]}") from None
@@ -322,9 +323,9 @@ class Room:
             parts = zip(got, *known)
             if got not in known if is_set else any(one not in rest for one, *rest in parts):
                 raise Wrong("the index answers neither of the old nor of the new")
-        self.judge_files(state.files, was_killed)
+        self.judge_files(state.files, was_killed, may_stay(ended.calls))
 
-    def judge_files(self, files: Files, was_killed: bool) -> None:
+    def judge_files(self, files: Files, was_killed: bool, stays: bool) -> None:
         """Raises Wrong where a file is neither as it was nor as it's to be, or is one too many."""
         out = self.base / "out/set"
         named = (
@@ -334,26 +335,24 @@ class Room:
         )
         known = {*self.old.files, *self.new.files}
         for path in sorted({*files, *known}):
-            is_temporary = path.startswith("tmp/") or was_killed and path.startswith("out/")
-            is_kept = path.startswith("out/kept")
-            values = {self.old.files.get(path), self.new.files.get(path)}
+            is_new = path not in known
+            is_temporary = is_new and path.startswith("tmp/") and (was_killed or stays)
+            is_out = is_new and path.startswith("out/") and was_killed
+            is_left = is_new and path.endswith(".new") and stays
             is_named = path.startswith("out/set/") and Path(path).stem in named
             if is_named and files.get(path) is None:
                 raise Wrong(f"{path} is named by the manifest, and isn't there")
-            if (
-                files.get(path) in values
-                or is_kept
-                or was_killed
-                and is_temporary
-                and path not in known
-            ):
+            values = {self.old.files.get(path), self.new.files.get(path)}
+            if files.get(path) in values or path.startswith("out/kept"):
+                continue
+            if is_temporary or is_out or is_left:
                 continue
             raise Wrong(f"{path} is {files.get(path)}, neither of {values}")
 
-    def judge_whole(self, state: State, was_killed: bool, when: str) -> None:
+    def judge_whole(self, state: State, stays: bool, when: str) -> None:
         """Raises Wrong where what there is isn't the new state."""
         files = state.files
-        if was_killed:
+        if stays:
             files = {path: one for path, one in files.items() if not path.startswith("tmp/")}
         for what, got, wanted in (
             ("answers", state.answers, self.new.answers),
@@ -375,6 +374,11 @@ class Ended:
     status: int
     warned: str
     calls: list[str]
+
+
+def may_stay(calls: list[str]) -> bool:
+    """Whether what was refused is to remove a file, or to look into a folder that goes."""
+    return any(re.search(r"^\d+ \d+ (unlink|rmdir|open .*/tmp/tmp\w+$)", call) for call in calls)
 
 
 def processes_with(mark: str) -> list[int]:

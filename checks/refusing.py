@@ -34,7 +34,7 @@ static long *count, wanted;
 static int which, log_to;
 static const int READ[] = {EIO, EACCES, EMFILE}, MADE[] = {ENOSPC, EIO, EACCES, EMFILE},
     WRITTEN[] = {ENOSPC, EIO}, REMOVED[] = {EIO, EACCES}, FORKED[] = {EAGAIN, ENOMEM},
-    OPENED[] = {EMFILE}, CONNECTED[] = {EACCES, ECONNREFUSED};
+    OPENED[] = {EMFILE}, CONNECTED[] = {EACCES, ECONNREFUSED}, SENT[] = {EPIPE, ECONNRESET};
 
 void refuse(long number, int error, const char *path) {
     wanted = number;
@@ -128,6 +128,8 @@ WRAPPED(int, rmdir, (const char *path), (path), path, REMOVED)
 WRAPPED(pid_t, fork, (void), (), "", FORKED)
 WRAPPED(int, pipe2, (int both[2], int flags), (both, flags), "", OPENED)
 WRAPPED(int, socket, (int domain, int type, int protocol), (domain, type, protocol), "", OPENED)
+WRAPPED(ssize_t, send, (int to, const void *from, size_t size, int flags), (to, from, size, flags),
+        "", SENT)
 WRAPPED(int, connect, (int of, const struct sockaddr *to, socklen_t size), (of, to, size), "",
         CONNECTED)
 """
