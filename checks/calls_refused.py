@@ -86,7 +86,12 @@ WORDS = [
     Word("prepare", ("prepare", "{in}/raw.lsif", "{out}/dump.lsif"), servers=0),
     Word("prepare-set", (*SPLIT, "{in}/raw.lsif", "{out}/set"), servers=0),
     Word("prepare-new-set", (*SPLIT, "{in}/raw.lsif", "{out}/set"), NOTHING, servers=0),
-    Word("prepare-scip", (*SPLIT, "{in}/crate.scip", "{out}/set"), NOTHING, servers=0),
+    Word(
+        "prepare-scip",
+        (*SPLIT, "--source", str(TOP / "demo/crate"), "{in}/crate.scip", "{out}/set"),
+        NOTHING,
+        servers=0,
+    ),
     Word("upload", UPLOAD),
     Word("upload-set", ("upload", "{url}", "{in}/set"), elements=ELEMENTS),
     Word("remove", ("remove", "{url}", "app"), UPLOAD, again=(0, 1)),

@@ -4,6 +4,7 @@ import os
 import stat
 import tempfile
 import unittest
+from unittest import mock
 
 from codenav.files import whole_file
 
@@ -23,8 +24,42 @@ class Files(unittest.TestCase):
         os.umask(umask)
         self.assertEqual(stat.S_IMODE(os.stat(self.path).st_mode), 0o666 & ~umask)
         os.chmod(self.path, 0o600)
-        self.written("second")
+        with whole_file(self.path) as out:
+            out.write(b"second")
+            modes = {stat.S_IMODE(file.stat().st_mode) for file in os.scandir(self.folder)}
+        self.assertEqual(modes, {0o600})
         self.assertEqual(stat.S_IMODE(os.stat(self.path).st_mode), 0o600)
+
+    def test_what_is_left(self) -> None:
+        """What a killed call left is written anew, and what somebody else has there isn't."""
+        other, left = os.path.join(self.folder, "other"), f"{self.path}.0.new"
+        for makes, stays in (
+            (lambda: os.rename(other, left), []),
+            (lambda: os.symlink(other, left), ["one.0.new"]),
+            (lambda: os.mkdir(left), ["one.0.new"]),
+        ):
+            with open(other, "w", encoding="utf-8") as file:
+                file.write("what was left is longer")
+            makes()
+            self.written("new")
+            with open(self.path, encoding="utf-8") as file:
+                self.assertEqual(file.read(), "new")
+            names = set(os.listdir(self.folder)) - {"one", "other"}
+            self.assertEqual(names, {*stays})
+            for name in stays:
+                path = os.path.join(self.folder, name)
+                os.rmdir(path) if os.path.isdir(path) and not os.path.islink(path) else os.unlink(
+                    path
+                )
+
+    def test_where_there_are_no_locks(self) -> None:
+        with mock.patch("fcntl.flock", side_effect=OSError(95, "Operation not supported")):
+            with whole_file(self.path) as other:
+                other.write(b"other")
+                self.written("second")
+            self.assertEqual(os.listdir(self.folder), ["one"])
+        with open(self.path, encoding="utf-8") as file:
+            self.assertEqual(file.read(), "other")
 
     def test_what_fails(self) -> None:
         """Nothing of it is left, nor is anything taken away that another process writes."""
