@@ -23,13 +23,7 @@ from codenav.faults import BadCall
 from codenav.limits import MOST_ELEMENTS
 from codenav.outcome import Outcome
 from codenav.progress import Shows
-from codenav.sets.files import (
-    MANIFEST,
-    drop_others,
-    put_manifest,
-    read_head,
-    unchanged_at_fault,
-)
+from codenav.sets.files import MANIFEST, drop_others, put_manifest, read_head, unchanged_at_fault
 from codenav.sets.manifest import DIGITS, DocumentEntry, Head, PartEntry
 from codenav.sets.split.crossing import Cut, Shared
 from codenav.sets.split.cuts import TooLarge, planned
