@@ -2,7 +2,8 @@
 
 `publish`, `prepare`, `upload` and `remove` go from an old revision of a small crate to a new one,
 over servers of the program. Of each run one call that opens, writes, renames, removes, forks or
-connects fails, by an error that such a call may have, or the process is killed. Then:
+connects fails, by an error that such a call may have, or the disk is full from then on, or the
+process is killed. Then:
 
 - each server answers as before or as it's to, and a set, or a file that's written, is the old one
   or the new one;
@@ -31,7 +32,7 @@ from dataclasses import dataclass
 from pathlib import Path
 from typing import Any
 
-from refusing import KILL, TOP, built, started
+from refusing import FULL, KILL, TOP, built, started
 
 sys.path.insert(0, str(TOP / "tools"))
 
@@ -48,6 +49,7 @@ SECONDS = 120
 GOES_ON = 10
 ELEMENTS, MOST = 200, 100_000
 APART = 10_000
+HOW = {KILL: "killed at", FULL: "the disk is full from here on"}
 MARK = "CODENAV_REFUSED"
 STAGE = re.compile(r"codenav publish: (.* \([0-9.]+ s\)|mended: .*)")
 TAGS = "".join(
@@ -297,7 +299,7 @@ class Room:
         self.restore()
         with self.servers():
             ended = self.call(self.word.words, number, which)
-            call = ended.calls[0].split(" ", 2)[-1] if ended.calls else "nothing"
+            call = ended.calls[0].split(" ", 3)[-1] if ended.calls else "nothing"
             try:
                 self.judge(ended, self.state(), which == KILL)
                 again = self.call(self.word.words)
@@ -306,7 +308,7 @@ class Room:
                 stays = which == KILL or may_stay(ended.calls)
                 self.judge_whole(self.state(), stays, "the same again: ")
             except Wrong as fault:
-                how = "killed at" if which == KILL else f"refused by error {which}"
+                how = HOW.get(which, f"refused by error {which}")
                 raise Wrong(f"{number} {call}: {how}: {fault}; {ended.warned[-300:]}") from None
         return "killed" if ended.status < 0 else "refused" if ended.calls else "neither"
 
@@ -381,9 +383,14 @@ class Ended:
     calls: list[str]
 
 
+def whiches(errors: str, may_be_full: str) -> list[int]:
+    """How a call is refused that may have so many errors."""
+    return [KILL, *range(int(errors)), *([FULL] if may_be_full == "1" else [])]
+
+
 def may_stay(calls: list[str]) -> bool:
     """Whether what was refused is to remove a file, or to look into a folder that goes."""
-    return any(re.search(r"^\d+ \d+ (unlink|rmdir|open .*/tmp/tmp\w+$)", call) for call in calls)
+    return any(re.search(r"^\d+ \d+ \d (unlink|rmdir|open .*/tmp/tmp\w+$)", call) for call in calls)
 
 
 def processes_with(mark: str) -> list[int]:
@@ -413,7 +420,7 @@ def try_word(word: Word, program: Program, library: str, each: int, turn: int) -
         every = [
             (number, which)
             for number, line in enumerate(calls, 1)
-            for which in (KILL, *range(int(line.split()[1])))
+            for which in whiches(*line.split()[1:3])
         ]
         for number, which in every[turn % each :: each]:
             try:

@@ -12,9 +12,10 @@ from pathlib import Path
 from typing import IO
 
 TOP = Path(__file__).resolve().parent.parent
-KILL = -1
-# `which` is the place of the error among those that a call may have, and KILL kills; a line of the
-# log has the number of a call, its name and what it's of
+KILL, FULL = -1, -2
+# `which` is the place of the error among those that a call may have; KILL kills, and FULL has the
+# disk be full from then on. A line of the log has the number of a call, of how many errors, whether
+# a full disk is one, its name and what it's of.
 LIBRARY = r"""
 #define _GNU_SOURCE
 #include <dlfcn.h>
@@ -30,6 +31,7 @@ LIBRARY = r"""
 #include <sys/stat.h>
 #include <unistd.h>
 
+enum { KILL = -1, FULL = -2 };
 static long *count, wanted;
 static int which, log_to;
 static const int READ[] = {EIO, EACCES, EMFILE}, MADE[] = {ENOSPC, EIO, EACCES, EMFILE},
@@ -47,13 +49,14 @@ static int is_refused(const char *call, const char *of, const int *errors, int l
     if (!count)
         return 0;
     long number = __atomic_add_fetch(count, 1, __ATOMIC_SEQ_CST);
-    if (!wanted || number == wanted)
-        dprintf(log_to, "%ld %d %s %s\n", number, length, call, of ? of : "");
-    if (number != wanted)
+    int is_it = number == wanted, is_full = which == FULL && number > wanted && wanted;
+    if (!wanted || is_it)
+        dprintf(log_to, "%ld %d %d %s %s\n", number, length, *errors == ENOSPC, call, of ? of : "");
+    if (!is_it && !(is_full && *errors == ENOSPC))
         return 0;
-    if (which < 0)
+    if (which == KILL)
         kill(getpid(), SIGKILL);
-    errno = errors[which % length];
+    errno = which == FULL ? ENOSPC : errors[which % length];
     return 1;
 }
 
