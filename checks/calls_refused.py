@@ -49,6 +49,8 @@ SECONDS = 120
 GOES_ON = 10
 ELEMENTS, MOST = 200, 100_000
 APART = 10_000
+# what the help of `prepare` has status 1 for
+UNREAD = "left out: document whose file can't be read"
 HOW = {KILL: "killed at", FULL: "the disk is full from here on"}
 MARK = "CODENAV_REFUSED"
 STAGE = re.compile(r"codenav publish: (.* \([0-9.]+ s\)|mended: .*)")
@@ -316,6 +318,7 @@ class Room:
         """Raises Wrong where a call that ended so leaves what it shouldn't."""
         if ended.status == 0:
             self.judge_whole(state, was_killed, "status 0: ")
+        if ended.status == 0 or ended.status == 1 and UNREAD in ended.warned:
             return
         lines = ended.warned.splitlines()
         while len(lines) > 1 and STAGE.fullmatch(lines[0]):
@@ -390,7 +393,7 @@ def whiches(errors: str, may_be_full: str) -> list[int]:
 
 def may_stay(calls: list[str]) -> bool:
     """Whether what was refused is to remove a file, or to look into a folder that goes."""
-    return any(re.search(r"^\d+ \d+ \d (unlink|rmdir|open .*/tmp/tmp\w+$)", call) for call in calls)
+    return any(re.search(r"^\d+ \d+ \d (unlink|rmdir|open .*/tmp/[\w-]+$)", call) for call in calls)
 
 
 def processes_with(mark: str) -> list[int]:

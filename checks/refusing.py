@@ -36,7 +36,8 @@ static long *count, wanted;
 static int which, log_to;
 static const int READ[] = {EIO, EACCES, EMFILE}, MADE[] = {ENOSPC, EIO, EACCES, EMFILE},
     WRITTEN[] = {ENOSPC, EIO}, REMOVED[] = {EIO, EACCES}, FORKED[] = {EAGAIN, ENOMEM},
-    OPENED[] = {EMFILE}, CONNECTED[] = {EACCES, ECONNREFUSED}, SENT[] = {EPIPE, ECONNRESET};
+    OPENED[] = {EMFILE}, CONNECTED[] = {EACCES, ECONNREFUSED}, SENT[] = {EPIPE, ECONNRESET},
+    PIPED[] = {EPIPE};
 
 void refuse(long number, int error, const char *path) {
     wanted = number;
@@ -111,9 +112,13 @@ OPEN_AT(openat64)
 
 ssize_t write(int to, const void *from, size_t size) {
     static ssize_t (*real)(int, const void *, size_t);
+    struct stat of;
     if (!real)
         real = dlsym(RTLD_NEXT, "write");
-    return to != 2 && REFUSED("write", to == 1 ? "1" : "", WRITTEN) ? -1 : real(to, from, size);
+    int is_file = to == 1 || (!fstat(to, &of) && S_ISREG(of.st_mode));
+    const char *name = to == 1 ? "1" : is_file ? "" : "pipe";
+    int is_no = to != 2 && (is_file ? REFUSED("write", name, WRITTEN) : REFUSED("write", name, PIPED));
+    return is_no ? -1 : real(to, from, size);
 }
 
 WRAPPED(ssize_t, pwrite64, (int to, const void *from, size_t size, off64_t at),

@@ -12,15 +12,19 @@ import unittest
 from pathlib import Path
 from typing import ContextManager
 from unittest import mock
+from unittest.mock import DEFAULT
 
 from codenav.cli.prepare import PREPARE
 from codenav.faults import BadCall
 from codenav.index.indexers import indexed
 from codenav.progress import Quiet
 from codenav.sets.split.writing import Writer
+from codenav.texts.decoded import body_of
+from tests.packages import needs
 from tests.servers import TOP, command
 
 RAW = os.path.join(TOP, "demo", "crate.raw.lsif")
+BODY = "codenav.dumps.scip.documents.body_of"
 SECONDS = 60
 GOES_ON = 15
 
@@ -112,6 +116,26 @@ class Ended(unittest.TestCase):
                 status = PREPARE.main(words)
             self.assertEqual((status, said.getvalue()), (2, f"codenav prepare: {text}\n"))
             self.assertEqual(os.listdir(self.folder), [])
+
+    def test_a_text_that_is_gone(self) -> None:
+        """An index is read twice: a text that can't be had any more then is no less to be there."""
+        needs("google.protobuf", "python3-protobuf")
+        crate, out = os.path.join(TOP, "demo", "crate"), os.path.join(self.folder, "out.lsif")
+        words = ["--source", crate, f"{crate}.scip", out]
+        line = "left out: document whose file can't be read (gone): 1, the first at src/lib.rs"
+        for number, status, text in (
+            (1, 1, line),
+            (3, 2, "src/lib.rs: gone"),
+            (4, 2, "src/lib.rs: gone"),
+        ):
+            read = [DEFAULT] * (number - 1) + [BadCall("src/lib.rs: gone")] + [DEFAULT] * 4
+            with mock.patch(BODY, mock.Mock(wraps=body_of, side_effect=read)):
+                with contextlib.redirect_stderr(io.StringIO()) as said:
+                    self.assertEqual(PREPARE.main(words), status)
+            self.assertIn(text, said.getvalue())
+            self.assertEqual(os.path.exists(out), status == 1)
+            with contextlib.suppress(FileNotFoundError):
+                os.unlink(out)
 
 
 if __name__ == "__main__":

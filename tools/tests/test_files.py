@@ -4,6 +4,7 @@ import os
 import stat
 import tempfile
 import unittest
+from typing import Callable
 from unittest import mock
 
 from codenav.files import whole_file
@@ -33,24 +34,23 @@ class Files(unittest.TestCase):
     def test_what_is_left(self) -> None:
         """What a killed call left is written anew, and what somebody else has there isn't."""
         other, left = os.path.join(self.folder, "other"), f"{self.path}.0.new"
-        for makes, stays in (
-            (lambda: os.rename(other, left), []),
-            (lambda: os.symlink(other, left), ["one.0.new"]),
-            (lambda: os.mkdir(left), ["one.0.new"]),
-        ):
+        rows: list[tuple[Callable[[], object], bool]] = [
+            (lambda: os.rename(other, left), False),
+            (lambda: os.symlink(other, left), True),
+            (lambda: os.mkdir(left), True),
+        ]
+        for makes, stays in rows:
             with open(other, "w", encoding="utf-8") as file:
                 file.write("what was left is longer")
             makes()
             self.written("new")
             with open(self.path, encoding="utf-8") as file:
                 self.assertEqual(file.read(), "new")
-            names = set(os.listdir(self.folder)) - {"one", "other"}
-            self.assertEqual(names, {*stays})
-            for name in stays:
-                path = os.path.join(self.folder, name)
-                os.rmdir(path) if os.path.isdir(path) and not os.path.islink(path) else os.unlink(
-                    path
-                )
+            self.assertEqual(os.path.lexists(left), stays)
+            if os.path.islink(left):
+                with open(other, encoding="utf-8") as file:
+                    self.assertEqual(file.read(), "what was left is longer")
+                os.unlink(left)
 
     def test_where_there_are_no_locks(self) -> None:
         with mock.patch("fcntl.flock", side_effect=OSError(95, "Operation not supported")):

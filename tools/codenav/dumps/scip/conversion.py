@@ -160,10 +160,10 @@ def converted(index: IndexFile, writer: Writer, options: ScipOptions, shows: Sho
         Documents(index, options.root, options.without, notes),
         options.keep_file_ranges,
     )
-    first, second = (
-        Occurrences(documents, Texts(documents, options.source, options.encoding, own), own, keeps)
-        for own in (notes, Notes())
-    )
+    given = documents, options.source, options.encoding
+    texts, others = Texts(*given, notes), Notes()
+    first = Occurrences(documents, texts, notes, keeps)
+    second = Occurrences(documents, Texts(*given, others, texts.unread), others, keeps)
     index.find(documents.uri_of)
     shows.begin("prepared", 2 * index.size)
     index.watch = shows.at

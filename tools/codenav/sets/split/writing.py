@@ -91,14 +91,14 @@ class Working:
             self.process.start()
 
     def written(self) -> list[Written]:
-        """The parts, once it has written them. Raises what it raised, and BadCall where it was
-        killed."""
+        """The parts, once it has written them. Raises what it raised, and ChildProcessError where it
+        was killed."""
         try:
             found: Union[list[Written], Fault, OSError] = self.told.recv()
         except EOFError:
             self.process.join()
             text = f"a process that writes parts ended with status {self.process.exitcode}"
-            raise BadCall(text) from None
+            raise ChildProcessError(text) from None
         self.end()
         if isinstance(found, list):
             return found
