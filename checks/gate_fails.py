@@ -91,8 +91,8 @@ CASES = [
         "calls",
         "calls",
         file="tools/codenav/files.py",
-        old="                os.unlink(self.path)",
-        new="                pass",
+        old="        if is_at(self.own, self.path):",
+        new="        if False:",
     ),
     Case(
         "tools",

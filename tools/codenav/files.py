@@ -41,6 +41,13 @@ def opened(name: str, file: Union[str, int], closes: bool = True) -> BinaryIO:
     return io.BufferedWriter(Named(name, file, closes), 1 << 16)
 
 
+def is_at(own: int, path: str) -> bool:
+    """Whether a path is that of an open file."""
+    with suppress(FileNotFoundError):
+        return os.path.samestat(os.fstat(own), os.lstat(path))
+    return False
+
+
 def own_file(path: str) -> Optional[int]:
     """The descriptor of an empty file, which is locked until it's closed: a new one, or one that a
     killed call left. None where another call has it."""
@@ -54,11 +61,10 @@ def own_file(path: str) -> Optional[int]:
             return None
     try:
         fcntl.flock(own, fcntl.LOCK_EX | fcntl.LOCK_NB)
-        there = os.fstat(own)
-        if os.path.samestat(there, os.lstat(path)) and there.st_uid == os.geteuid():
+        if is_at(own, path) and os.fstat(own).st_uid == os.geteuid():
             os.ftruncate(own, 0)
             return own
-    except (BlockingIOError, FileNotFoundError):
+    except BlockingIOError:
         pass
     except OSError:
         if is_new:
@@ -72,28 +78,31 @@ class NewFile:
     it; faults have the target as it was given."""
 
     def __init__(self, target: str) -> None:
-        self.target, self.whole, self.is_put = target, os.path.realpath(target), False
+        self.target, self.whole = target, os.path.realpath(target)
         with of_file(target):
             paths = (f"{self.whole}.{number}.new" for number in count())
             self.path, self.own = next(
                 (path, own) for path in paths if (own := own_file(path)) is not None
             )
-            if os.path.isfile(self.whole):
-                os.fchmod(self.own, stat.S_IMODE(os.stat(self.whole).st_mode))
-            self.out = opened(target, os.dup(self.own))
+            try:
+                if os.path.isfile(self.whole):
+                    os.fchmod(self.own, stat.S_IMODE(os.stat(self.whole).st_mode))
+                self.out = opened(target, os.dup(self.own))
+            except BaseException:
+                os.unlink(self.path)
+                os.close(self.own)
+                raise
 
     def put(self) -> None:
         """Has it, which is whole, take the target's place."""
         self.out.close()
         with of_file(self.target):
             os.replace(self.path, self.whole)
-        self.is_put = True
 
     def end(self) -> None:
         """Takes it away, where it isn't put."""
-        if not self.is_put:
-            with suppress(FileNotFoundError):
-                os.unlink(self.path)
+        if is_at(self.own, self.path):
+            os.unlink(self.path)
         with suppress(OSError):
             self.out.close()
         os.close(self.own)

@@ -116,11 +116,12 @@ def work(writer: Writer, parts: Sequence[int], tells: Connection) -> None:
     signal.signal(signal.SIGTERM, signal.SIG_DFL)
     signal.signal(signal.SIGINT, signal.SIG_IGN)
     end_with_parent()
+    try:
+        found: Union[list[Written], Fault, OSError] = [writer.write(part) for part in parts]
+    except (Fault, OSError) as fault:
+        found = fault
     with suppress(OSError):
-        try:
-            tells.send([writer.write(part) for part in parts])
-        except (Fault, OSError) as fault:
-            tells.send(fault)
+        tells.send(found)
 
 
 def refuse_long_lines(lines: Sequence[str]) -> None:
