@@ -79,6 +79,12 @@ def parts(program: str) -> list[Part]:
             "gcc libc6-dev",
         ),
         Part("cost", (*PYTHON, "checks/cost.py", program), ("valgrind",), "valgrind"),
+        Part(
+            "calls",
+            (*PYTHON, "checks/calls_refused.py", "--gate", program),
+            (compiler, "git", "ctags"),
+            "gcc libc6-dev git universal-ctags",
+        ),
         Part("kills", (*PYTHON, "checks/kills.py", program, "40")),
         Part("disk", (*PYTHON, "checks/full_disk.py", program), mounts=True),
         Part(

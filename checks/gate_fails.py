@@ -88,6 +88,13 @@ CASES = [
     Case("disk", "disk", program=TAKES_ANY_FILE),
     Case("refused", "refused", program=WRONG_STATUS),
     Case(
+        "calls",
+        "calls",
+        file="tools/codenav/files.py",
+        old="        if is_at(self.own, self.path):",
+        new="        if False:",
+    ),
+    Case(
         "tools",
         "tools",
         file="tools/codenav/lsp/jsonrpc.py",

@@ -64,13 +64,6 @@ class Outcome:
         return not self.over and (lenient or all(note.kind != LEFT_OUT for note in self.notes))
 
 
-class Prepared(NamedTuple):
-    """A dump that was written: its path, or `-`, and what came of it."""
-
-    path: str
-    outcome: Outcome
-
-
 class Notes:
     """Collects notes of what was mended and what was left out: of each kind and text the first
     place, and how often it came."""

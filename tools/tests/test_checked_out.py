@@ -49,7 +49,7 @@ class CheckedOut(InRepository):
         self.assertFalse(os.path.exists(os.path.join(self.top, NAMES[2])))
 
     def test_changes(self) -> None:
-        """Each of what's done to a repository, by itself."""
+        """Each of what's done to a repository, by itself; its index stays as it is."""
         skip, assume = "--skip-worktree", "--assume-unchanged"
         rows: list[tuple[str, bool, list[Callable[[], object]]]] = [
             ("nothing", False, []),
@@ -116,6 +116,7 @@ class CheckedOut(InRepository):
                 self.renew(kept)
                 for step in steps:
                     step()
+                index = self.index()
                 line = f"{self.top} changed meanwhile, so the index is of no revision"
                 found = still_indexed_at(self.top, self.head, None)
                 self.assertEqual(found, ("", line) if is_change else (self.head, ""))
@@ -132,6 +133,12 @@ class CheckedOut(InRepository):
                 )
                 found = still_indexed_at(self.top, head, "HEAD")
                 self.assertEqual(found, (head, line if is_change else ""))
+                self.assertEqual(self.index(), index)
+
+    def index(self) -> bytes:
+        """What git keeps of the work tree."""
+        with open(os.path.join(self.top, ".git", "index"), "rb") as file:
+            return file.read()
 
     def renew(self, kept: str) -> None:
         """Makes the repository what it was."""

@@ -4,6 +4,8 @@ import os
 import stat
 import tempfile
 import unittest
+from typing import Callable
+from unittest import mock
 
 from codenav.files import whole_file
 
@@ -23,8 +25,41 @@ class Files(unittest.TestCase):
         os.umask(umask)
         self.assertEqual(stat.S_IMODE(os.stat(self.path).st_mode), 0o666 & ~umask)
         os.chmod(self.path, 0o600)
-        self.written("second")
+        with whole_file(self.path) as out:
+            out.write(b"second")
+            modes = {stat.S_IMODE(file.stat().st_mode) for file in os.scandir(self.folder)}
+        self.assertEqual(modes, {0o600})
         self.assertEqual(stat.S_IMODE(os.stat(self.path).st_mode), 0o600)
+
+    def test_what_is_left(self) -> None:
+        """What a killed call left is written anew, and what somebody else has there isn't."""
+        other, left = os.path.join(self.folder, "other"), f"{self.path}.0.new"
+        rows: list[tuple[Callable[[], object], bool]] = [
+            (lambda: os.rename(other, left), False),
+            (lambda: os.symlink(other, left), True),
+            (lambda: os.mkdir(left), True),
+        ]
+        for makes, stays in rows:
+            with open(other, "w", encoding="utf-8") as file:
+                file.write("what was left is longer")
+            makes()
+            self.written("new")
+            with open(self.path, encoding="utf-8") as file:
+                self.assertEqual(file.read(), "new")
+            self.assertEqual(os.path.lexists(left), stays)
+            if os.path.islink(left):
+                with open(other, encoding="utf-8") as file:
+                    self.assertEqual(file.read(), "what was left is longer")
+                os.unlink(left)
+
+    def test_where_there_are_no_locks(self) -> None:
+        with mock.patch("fcntl.flock", side_effect=OSError(95, "Operation not supported")):
+            with whole_file(self.path) as other:
+                other.write(b"other")
+                self.written("second")
+            self.assertEqual(os.listdir(self.folder), ["one"])
+        with open(self.path, encoding="utf-8") as file:
+            self.assertEqual(file.read(), "other")
 
     def test_what_fails(self) -> None:
         """Nothing of it is left, nor is anything taken away that another process writes."""

@@ -106,7 +106,8 @@ class OneCommand(unittest.TestCase):
         self.assertEqual((status, warned), (2, "codenav serve: /no/program: no program\n"))
 
     def test_ends(self) -> None:
-        """A signal is one line and its status; where nobody reads there's no line."""
+        """A signal is one line and its status, and so is a full disk; where nobody reads there's no
+        line."""
         with socket.create_server(("127.0.0.1", 0)) as silent:
             url = f"http://127.0.0.1:{silent.getsockname()[1]}"
             for number, text in (signal.SIGINT, "Ctrl-C"), (signal.SIGTERM, "SIGTERM"):
@@ -126,6 +127,16 @@ class OneCommand(unittest.TestCase):
             )
             os.close(into)
             self.assertEqual((done.stderr, done.returncode), (b"", 141))
+            with open("/dev/full", "wb") as full:
+                done = subprocess.run(
+                    [*command(words[0]), *words[1:]],
+                    stdout=full,
+                    stderr=subprocess.PIPE,
+                    check=False,
+                    env={**os.environ, "PYTHONUNBUFFERED": ""},
+                )
+            line = b"codenav: standard output: No space left on device\n"
+            self.assertEqual((done.stderr, done.returncode), (line, 2))
 
 
 class Installed(OnServer):

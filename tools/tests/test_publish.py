@@ -1,6 +1,7 @@
 """Tests of `publish` and of the examples in docs/CI.md, over a real server. The indexer stands in
 for rust-analyzer: it prints what that wrote."""
 
+import contextlib
 import io
 import json
 import os
@@ -394,9 +395,9 @@ class Publish(OnCheckout):
 
     def test_a_dry_run(self) -> None:
         kept = os.path.join(self.home, "kept")
-        status, said, _ = self.published(
-            "--dry-run", "--keep", kept, "app", self.checkout, url="http://127.0.0.1:1"
-        )
+        words = ["--dry-run", "--keep", "kept", "app", self.checkout]
+        with contextlib.chdir(self.home):
+            status, said, _ = self.published(*words, url="http://127.0.0.1:1")
         where = "http://127.0.0.1:1"
         line = f"nothing was uploaded, as --dry-run asks: app at {where} would have a dump, profile 1 and tags"
         self.assertEqual((status, said[0], listed(self.url)), (0, line, []))

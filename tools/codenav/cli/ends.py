@@ -6,6 +6,7 @@ import sys
 from typing import Callable, NoReturn
 
 from codenav.faults import Fault
+from codenav.files import STANDARD_OUTPUT, of_file
 from codenav.printed import line
 
 CLOSED_PIPE = 128 + signal.SIGPIPE
@@ -27,7 +28,8 @@ def raise_signal(number: int, _: object) -> NoReturn:
 
 def text_of(fault: OSError) -> str:
     """What a fault of the system is said by."""
-    return f"{fault.filename}: {fault.strerror}" if fault.filename else str(fault)
+    text = fault.strerror or str(fault)
+    return f"{fault.filename}: {text}" if fault.filename else text
 
 
 def status_of(tool: str, call: Callable[[], int]) -> int:
@@ -37,7 +39,8 @@ def status_of(tool: str, call: Callable[[], int]) -> int:
     status of a program that SIGPIPE ended."""
     try:
         status = call()
-        sys.stdout.flush()
+        with of_file(STANDARD_OUTPUT):
+            sys.stdout.flush()
         return status
     except BrokenPipeError:
         os.dup2(os.open(os.devnull, os.O_WRONLY), sys.stdout.fileno())

@@ -2,10 +2,9 @@
 
 import argparse
 import os
-import shutil
 from dataclasses import dataclass, field, replace
-from tempfile import TemporaryDirectory
-from typing import Optional
+from tempfile import NamedTemporaryFile
+from typing import BinaryIO, Optional, cast
 
 from codenav.cli.command import Command
 from codenav.cli.show import Shown
@@ -15,7 +14,7 @@ from codenav.dumps.prepare.plan import Options
 from codenav.dumps.prepare.prepare import prepare
 from codenav.dumps.scip.options import ScipOptions
 from codenav.faults import BadCall
-from codenav.files import whole_file
+from codenav.files import new_beside, whole_file
 from codenav.limits import MOST_ELEMENTS
 from codenav.names import set_name
 from codenav.outcome import Outcome
@@ -129,8 +128,8 @@ def add_prepare(parser: argparse.ArgumentParser) -> None:
     )
 
 
-def whole(dump: Dump, call: PrepareCall, path: str, shows: Shows) -> Outcome:
-    """Writes the dump of what is read into a file; answers what came of it."""
+def whole(dump: Dump, call: PrepareCall, out: BinaryIO, shows: Shows) -> Outcome:
+    """Writes the dump of what is read; answers what came of it."""
     if isinstance(dump, Source):
         options = Options(
             call.strip,
@@ -142,11 +141,11 @@ def whole(dump: Dump, call: PrepareCall, path: str, shows: Shows) -> Outcome:
             call.report,
             call.profile,
         )
-        return prepare(dump, path, options, shows).outcome
+        return prepare(dump, out, options, shows)
     # loaded here: it needs a package that isn't needed for LSIF
     from codenav.dumps.scip.conversion import convert
 
-    return convert(dump, path, call.of_index(), shows).outcome
+    return convert(dump, out, call.of_index(), shows)
 
 
 def as_set(dump: Dump, call: PrepareCall, path: str, shows: Shows) -> SetFiles:
@@ -170,33 +169,66 @@ def as_set(dump: Dump, call: PrepareCall, path: str, shows: Shows) -> SetFiles:
     return split(dump, options, call.output, shows, call.of_index())
 
 
-def made(dump: Dump, call: PrepareCall, path: str, shows: Shows) -> tuple[list[str], bool]:
-    """Writes OUT: a dump, which is made at a path first, or a folder with a set. Answers what's said
-    of it, and whether all of it is there and within the limits."""
-    is_set = call.set or os.path.isfile(os.path.join(call.output, MANIFEST))
-    is_stream = call.output == "-" or os.path.exists(call.output)
-    is_stream = is_stream and not os.path.isfile(call.output) and not os.path.isdir(call.output)
-    lines, is_whole = list[str](), True
-    if isinstance(dump, Source) or not is_set:
-        outcome = whole(dump, call, path, shows)
-        if not is_set and (is_stream or not outcome.is_too_large()):
-            with open(path, "rb") as body, whole_file(call.output) as out:
-                shutil.copyfileobj(body, out)
-            advice = [ADVICE] if outcome.over else []
-            return [*outcome.lines(), *advice], outcome.is_whole(call.lenient)
-        if isinstance(dump, Source):
-            within = replace(outcome, over=())
-            lines = (within if call.set else outcome).lines()
-            is_whole = within.is_whole(call.lenient)
+def said(outcome: Outcome) -> list[str]:
+    """What's said of a dump that is no set."""
+    return [*outcome.lines(), *([ADVICE] if outcome.over else [])]
+
+
+Said = tuple[list[str], bool]
+"""What's said of what was made, and whether all of it is there and within the limits."""
+
+
+def of_set(
+    dump: Dump, call: PrepareCall, path: str, outcome: Optional[Outcome], shows: Shows
+) -> Said:
+    """Writes a set of an index, or of the dump that was prepared at a path."""
     files = as_set(dump, call, path, shows)
-    return [*lines, *files.lines()], is_whole and files.reading.is_whole(call.lenient)
+    lines, is_whole = files.lines(), files.reading.is_whole(call.lenient)
+    if outcome is not None and isinstance(dump, Source):
+        lines = [*outcome.lines(), *lines]
+        is_whole = is_whole and replace(outcome, over=()).is_whole(call.lenient)
+    return lines, is_whole
+
+
+def into_set(dump: Dump, call: PrepareCall, shows: Shows) -> Said:
+    """Writes OUT, a folder with a set."""
+    if not isinstance(dump, Source):
+        return of_set(dump, call, "", None, shows)
+    with NamedTemporaryFile(prefix="codenav-prepare-") as out:
+        outcome = whole(dump, call, cast(BinaryIO, out), shows)
+        out.flush()
+        within = replace(outcome, over=()) if call.set else outcome
+        return of_set(dump, call, out.name, within, shows)
+
+
+def into_file(dump: Dump, call: PrepareCall, shows: Shows) -> Said:
+    """Writes OUT: a dump, or where that is too large for one project a folder with a set."""
+    with new_beside(call.output) as new:
+        outcome = whole(dump, call, new.out, shows)
+        if not outcome.is_too_large():
+            new.put()
+            return said(outcome), outcome.is_whole(call.lenient)
+        new.out.flush()
+        return of_set(dump, call, new.path, outcome, shows)
+
+
+def made(dump: Dump, call: PrepareCall, shows: Shows) -> Said:
+    """Writes OUT, whatever it is to be."""
+    if call.set or os.path.isfile(os.path.join(call.output, MANIFEST)):
+        return into_set(dump, call, shows)
+    is_other = os.path.exists(call.output) and not os.path.isdir(call.output)
+    if call.output != "-" and (not is_other or os.path.isfile(call.output)):
+        return into_file(dump, call, shows)
+    with whole_file(call.output) as out:
+        outcome = whole(dump, call, out, shows)
+    return said(outcome), outcome.is_whole(call.lenient)
 
 
 def run_prepare(call: PrepareCall) -> int:
     """Makes a dump or a set, and says what came of it."""
     shows = Shown("codenav prepare")
-    with opened_dump(call.input) as dump, TemporaryDirectory(prefix="codenav-prepare-") as work:
-        lines, is_whole = made(dump, call, os.path.join(work, "dump.lsif"), shows)
+    with opened_dump(call.input) as dump:
+        lines, is_whole = made(dump, call, shows)
     for line in lines:
         shows.warn(line)
     return 0 if is_whole else 1

@@ -115,7 +115,7 @@ def work_folder(kept: Optional[str]) -> Iterator[str]:
     the context."""
     if kept is not None:
         os.makedirs(kept, exist_ok=True)
-        yield kept
+        yield os.path.abspath(kept)
         return
     with tempfile.TemporaryDirectory(prefix="codenav-publish-") as folder:
         yield folder

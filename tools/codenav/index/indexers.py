@@ -5,16 +5,18 @@ import shutil
 import signal
 import subprocess
 import time
-from contextlib import suppress
-from typing import Iterable, NamedTuple, Optional
+from contextlib import contextmanager, suppress
+from typing import Any, Iterable, Iterator, NamedTuple, Optional
 
 from codenav.faults import BadCall
 from codenav.index.tags_file import files_of
+from codenav.program import end_with_parent
 from codenav.progress import Shows
 
 TAIL_LINES = 5
-POLL_SECONDS = 0.1
-END_SECONDS = 5.0
+POLL_SECONDS, ENDS_SECONDS = 0.1, 10
+GUARDED = 'trap "trap : TERM; kill 0; wait" TERM; sh -c "$1" & wait $!'
+"""A line of the shell that calls another one, and hands on SIGTERM to all that this started."""
 
 
 class Indexer(NamedTuple):
@@ -126,18 +128,28 @@ def tail_of(path: str) -> str:
     return " | ".join(lines[-TAIL_LINES:])
 
 
-def end_group(process: "subprocess.Popen[bytes]") -> None:
-    """Ends what is left of a process and of all that it started in its group: by SIGTERM, and after
-    some seconds by SIGKILL; waits up to its end."""
-    with suppress(ProcessLookupError):
-        for number in signal.SIGTERM, signal.SIGKILL:
-            os.killpg(process.pid, number)
-            end = time.monotonic() + END_SECONDS
-            while time.monotonic() < end:
-                process.poll()
-                os.killpg(process.pid, 0)
-                time.sleep(POLL_SECONDS)
-    process.wait()
+@contextmanager
+def begun(line: str, folder: str, **more: Any) -> Iterator["subprocess.Popen[bytes]"]:
+    """A line of the shell that is called in a folder. It ends with the context, with all that it
+    started, and so it does where this process is killed."""
+    run = subprocess.Popen(
+        ["sh", "-c", GUARDED, "sh", line],
+        cwd=folder,
+        stdin=subprocess.DEVNULL,
+        process_group=0,
+        preexec_fn=end_with_parent,
+        **more,
+    )
+    try:
+        yield run
+    finally:
+        if run.poll() is None:
+            os.killpg(run.pid, signal.SIGTERM)
+            with suppress(subprocess.TimeoutExpired):
+                run.wait(ENDS_SECONDS)
+        with suppress(ProcessLookupError):
+            os.killpg(run.pid, signal.SIGKILL)
+        run.wait()
 
 
 def indexed(line: str, folder: str, project: str, work: str, shows: Shows) -> str:
@@ -149,24 +161,13 @@ def indexed(line: str, folder: str, project: str, work: str, shows: Shows) -> st
         os.path.join(work, name) for name in ("index.out", "index.raw", "index.log")
     )
     with suppress(FileNotFoundError):
-        os.unlink(out)
+        os.unlink(out)  # that of an earlier call
+    own = {**os.environ, "OUT": out, "PROJECT": project}
     with open(printed, "wb") as standard, open(log, "wb") as said:
-        run = subprocess.Popen(
-            line,
-            shell=True,
-            cwd=folder,
-            stdin=subprocess.DEVNULL,
-            stdout=standard,
-            stderr=said,
-            env={**os.environ, "OUT": out, "PROJECT": project},
-            process_group=0,
-        )
-        try:
+        with begun(line, folder, stdout=standard, stderr=said, env=own) as run:
             while run.poll() is None:
                 time.sleep(POLL_SECONDS)
                 shows.at(os.path.getsize(out if os.path.exists(out) else printed))
-        finally:
-            end_group(run)
     if run.returncode != 0:
         said_last = tail_of(log)
         raise BadCall(

@@ -4,11 +4,14 @@ import os
 import re
 import shutil
 import subprocess
+import tempfile
 from collections import Counter
-from typing import Iterator, Optional
+from contextlib import contextmanager
+from typing import IO, Iterator, Optional
 
 from codenav.faults import BadCall
 from codenav.limits import MOST_BODY_BYTES, MOST_TAG_LINES
+from codenav.program import end_with_parent
 
 MOST_LINE_BYTES = 65_536
 CONTROLS = re.compile(rb"[\x00-\x08\x0b-\x1f\x7f]")
@@ -67,34 +70,45 @@ def fault_of(line: bytes, number: int, written: int) -> Optional[str]:
     return "H04" if written + len(line) + 1 > MOST_BODY_BYTES else None
 
 
+@contextmanager
+def ctags(folder: str, names: IO[bytes]) -> Iterator["subprocess.Popen[bytes]"]:
+    """What prints the tags of the files that a file names; at a fault it's ended."""
+    with subprocess.Popen(
+        ["ctags", "--options=NONE", "-f", "-", "-L", "-", "--fields=+n", "--sort=yes"],
+        cwd=folder,
+        stdin=names,
+        stdout=subprocess.PIPE,
+        stderr=subprocess.DEVNULL,
+        env={**os.environ, "LC_ALL": "C"},
+        preexec_fn=end_with_parent,
+    ) as run:
+        try:
+            yield run
+        except BaseException:
+            run.terminate()
+            raise
+
+
 def tagged(folder: str, path: str, is_cut: bool = False) -> tuple[int, Counter[str]]:
     """Writes the tags file of a checkout; answers how many lines it has, and how many were left
     out, by the server's codes. One that's cut afterwards may be larger than what the server takes.
 
-    The list of the files stands beside it meanwhile. They're named from `./` on, which no option
-    begins with; and no options of the checkout's count.
+    Files are named from `./` on, which no option begins with; and no options of the checkout's
+    count.
     """
-    names = os.path.abspath(f"{path}.files")
-    with open(names, "wb") as listed:
-        listed.writelines(b"./" + name + b"\n" for name in files_of(folder))
     count, written, left_out = 0, 0, Counter[str]()
-    with open(path, "wb") as out, subprocess.Popen(
-        ["ctags", "--options=NONE", "-f", "-", "-L", names, "--fields=+n", "--sort=yes"],
-        cwd=folder,
-        stdin=subprocess.DEVNULL,
-        stdout=subprocess.PIPE,
-        stderr=subprocess.DEVNULL,
-        env={**os.environ, "LC_ALL": "C"},
-    ) as run:
-        for line in run.stdout or ():
-            line = line.removesuffix(b"\n").replace(b"\t./", b"\t", 1)
-            code = fault_of(line, *((0, 0) if is_cut else (count + 1, written)))
-            if code is not None:
-                left_out[code] += 1
-                continue
-            written += out.write(line + b"\n")
-            count += 1
-    os.unlink(names)
+    with tempfile.TemporaryFile() as names, open(path, "wb") as out:
+        names.writelines(b"./" + name + b"\n" for name in files_of(folder))
+        names.seek(0)
+        with ctags(folder, names) as run:
+            for line in run.stdout or ():
+                line = line.removesuffix(b"\n").replace(b"\t./", b"\t", 1)
+                code = fault_of(line, *((0, 0) if is_cut else (count + 1, written)))
+                if code is not None:
+                    left_out[code] += 1
+                    continue
+                written += out.write(line + b"\n")
+                count += 1
     if run.returncode != 0:
         raise BadCall(f"ctags ended with status {run.returncode} in {folder}")
     return count, left_out

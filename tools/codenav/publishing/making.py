@@ -17,6 +17,7 @@ from codenav.dumps.prepare.plan import Options
 from codenav.dumps.prepare.prepare import prepare
 from codenav.dumps.scip.options import ScipOptions
 from codenav.faults import BadCall, NotADump, Unfit
+from codenav.files import whole_file
 from codenav.index.indexers import Choice, fitting, indexed, named
 from codenav.index.tags_file import LEFT_OUT as TAGS_LEFT_OUT
 from codenav.index.tags_file import tagged
@@ -153,7 +154,7 @@ class Making:
 
     def prepare(self, raw: str, out: str) -> Outcome:
         """Writes the dump that the server takes of a dump or an index."""
-        with opened_dump(raw) as source:
+        with opened_dump(raw) as source, whole_file(out) as file:
             if isinstance(source, Source):
                 options = Options(
                     strip=True,
@@ -161,11 +162,11 @@ class Making:
                     reports=True,
                     profile=self.profile,
                 )
-                outcome = prepare(source, out, options, self.shows).outcome
+                outcome = prepare(source, file, options, self.shows)
             else:
                 from codenav.dumps.scip.conversion import convert
 
-                outcome = convert(source, out, self.of_index(), self.shows).outcome
+                outcome = convert(source, file, self.of_index(), self.shows)
         for note in outcome.notes:
             if note.kind == MENDED:
                 self.shows.warn(str(note))

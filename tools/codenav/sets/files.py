@@ -2,7 +2,8 @@
 
 import os
 import re
-from typing import Sequence
+from contextlib import contextmanager
+from typing import Iterator, Sequence
 from urllib.parse import quote
 
 from codenav.addresses import serialized
@@ -116,12 +117,26 @@ def put_manifest(folder: str, head: Head, documents: Sequence[DocumentEntry]) ->
     return head
 
 
-def drop_others(folder: str, head: Head) -> None:
-    """Removes the parts of the set that the manifest doesn't name, and what an interrupted call
-    left."""
-    named = set(head.projects())
-    form = re.compile(rf"({re.escape(head.name)}-[0-9a-f]{{16}})\.(lsif|tags)(\.[0-9]+\.new)?")
+def drop_others(folder: str, name: str, projects: Sequence[str]) -> None:
+    """Removes the parts of a set but for those of these projects, and what a killed call left."""
+    named = set(projects)
+    form = re.compile(rf"({re.escape(name)}-[0-9a-f]{{16}})\.(lsif|tags)(\.[0-9]+\.new)?")
     for file in os.listdir(folder):
         found = form.fullmatch(file)
         if found is not None and (found[1] not in named or found[3]):
             os.unlink(os.path.join(folder, file))
+
+
+@contextmanager
+def unchanged_at_fault(folder: str, name: str) -> Iterator[None]:
+    """A folder that a set is written to, made where it isn't there. Of what fails nothing stays
+    there that its manifest doesn't name."""
+    is_new, path = not os.path.isdir(folder), os.path.join(folder, MANIFEST)
+    os.makedirs(folder, exist_ok=True)
+    try:
+        yield
+    except BaseException:
+        drop_others(folder, name, read_head(path).projects() if os.path.exists(path) else [])
+        if is_new and not os.listdir(folder):
+            os.rmdir(folder)
+        raise

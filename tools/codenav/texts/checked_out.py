@@ -2,8 +2,7 @@
 where no file that git has differs from it."""
 
 import os
-from contextlib import contextmanager
-from typing import Iterator, Optional
+from typing import Optional
 
 from codenav.faults import BadCall
 from codenav.texts.git import commit_of, copied_index, found_in, git, top_of
@@ -63,20 +62,11 @@ def is_changed(top: str, commit: str) -> bool:
         if mode == b"160000" and os.path.lexists(os.path.join(path, ".git")):
             submodules.append(path)
     call = ["diff", "--quiet", "--ignore-submodules=dirty", commit, "--"]
-    with without_marks(top, b"".join(marked)) as variables:
+    # git writes an index when it has looked at files that only seem to differ from it
+    with copied_index(top) as variables:
+        for word in UNMARK if marked else ():
+            unmark = ["update-index", "-z", word, "--stdin"]
+            git(top, *unmark, seconds=None, body=b"".join(marked), variables=variables)
         if git(top, *call, seconds=None, variables=variables) is None:
             return True
     return any(is_changed(submodule, "HEAD") for submodule in submodules)
-
-
-@contextmanager
-def without_marks(top: str, names: bytes) -> Iterator[dict[str, str]]:
-    """What has git compare the files of these names too: a copy of its index, where there are such."""
-    if not names:
-        yield {}
-        return
-    with copied_index(top) as variables:
-        for word in UNMARK:
-            call = ["update-index", "-z", word, "--stdin"]
-            git(top, *call, seconds=None, body=names, variables=variables)
-        yield variables

@@ -102,7 +102,7 @@ def copied_index(top: str) -> Iterator[dict[str, str]]:
     index = line_of(git(top, "rev-parse", "--git-path", "index"))
     with tempfile.TemporaryDirectory() as folder:
         copy = os.path.join(folder, "index")
-        with suppress(OSError):
+        with suppress(FileNotFoundError):
             shutil.copy2(os.path.join(top, index), copy)
         yield {"GIT_INDEX_FILE": copy}
 

@@ -29,9 +29,8 @@ from codenav.dumps.prepare.vertices import VERSION, Mender
 from codenav.dumps.tables import rows
 from codenav.dumps.tables.graph import Graph
 from codenav.dumps.tables.reader import Reader
-from codenav.files import whole_file
 from codenav.kinds import KINDS
-from codenav.outcome import MERGED, NO_EFFECT, Note, Notes, Outcome, Prepared
+from codenav.outcome import MERGED, NO_EFFECT, Note, Notes, Outcome
 from codenav.progress import Shows
 
 PASSES: tuple[Callable[[Plan, Options], None], ...] = (
@@ -127,9 +126,8 @@ def without_effect(survey: Survey, profile: str) -> Iterator[Note]:
             yield Note(NO_EFFECT, f"{of} {label}", count)
 
 
-def prepare(source: Source, out_path: str, options: Options, shows: Shows) -> Prepared:
-    """Prepares a dump into a file, or onto the standard output for `-`. Raises NotADump where it
-    can't be, and then a file stays as it was."""
+def prepare(source: Source, out: BinaryIO, options: Options, shows: Shows) -> Outcome:
+    """Writes the dump that the server takes of a dump. Raises NotADump where it can't be made."""
     notes = Notes()
     shows.begin("prepared", 2 * source.size)
     source.watch = shows.at
@@ -139,8 +137,7 @@ def prepare(source: Source, out_path: str, options: Options, shows: Shows) -> Pr
     profile = options.profile or profile_of(plan.survey)
     reader = Reader(profile, Graph()) if options.reports else None
     source.watch = lambda read: shows.at(source.size + read)
-    with whole_file(out_path) as out:
-        writer = written(source, out, plan, reader)
+    writer = written(source, out, plan, reader)
     counts = {
         "elements before": plan.survey.elements,
         "elements": writer.elements,
@@ -156,4 +153,4 @@ def prepare(source: Source, out_path: str, options: Options, shows: Shows) -> Pr
         said += [rows.note(tallies), *merged(plan), *without_effect(plan.survey, profile)]
     outcome = Outcome(summary(plan, counts), counts, tuple(said), tuple(over))
     shows.end(outcome.said)
-    return Prepared(out_path, outcome)
+    return outcome

@@ -9,6 +9,7 @@ result that leads to each one's; docs/inside/DECISIONS.md says how it's chained.
 """
 
 from dataclasses import replace
+from typing import BinaryIO
 
 from codenav.dumps.prepare.vertices import VERSION
 from codenav.dumps.scip.documents import Documents, Texts
@@ -20,8 +21,7 @@ from codenav.dumps.scip.options import ScipOptions
 from codenav.dumps.scip.scip_pb2 import Document, SymbolInformation
 from codenav.dumps.scip.survey import SEVERAL, Survey
 from codenav.dumps.scip.symbols import markdown
-from codenav.files import whole_file
-from codenav.outcome import Notes, Outcome, Prepared
+from codenav.outcome import Notes, Outcome
 from codenav.progress import Shows
 
 Places = dict[int, dict[int, None]]
@@ -160,10 +160,10 @@ def converted(index: IndexFile, writer: Writer, options: ScipOptions, shows: Sho
         Documents(index, options.root, options.without, notes),
         options.keep_file_ranges,
     )
-    first, second = (
-        Occurrences(documents, Texts(documents, options.source, options.encoding, own), own, keeps)
-        for own in (notes, Notes())
-    )
+    given = documents, options.source, options.encoding
+    texts, others = Texts(*given, notes), Notes()
+    first = Occurrences(documents, texts, notes, keeps)
+    second = Occurrences(documents, Texts(*given, others, texts.unread), others, keeps)
     index.find(documents.uri_of)
     documents.finish()
     shows.begin("prepared", 2 * index.size)
@@ -188,10 +188,8 @@ def converted(index: IndexFile, writer: Writer, options: ScipOptions, shows: Sho
     return Outcome(said, counts, notes.all())
 
 
-def convert(index: IndexFile, out_path: str, options: ScipOptions, shows: Shows) -> Prepared:
-    """Writes the dump of an index into a file, or onto the standard output for `-`. Raises NotADump
-    or BadCall where it can't be made, and then a file stays as it was."""
-    with whole_file(out_path) as out:
-        writer = Writer(out)
-        outcome = converted(index, writer, options, shows)
-    return Prepared(out_path, replace(outcome, over=writer.excesses()))
+def convert(index: IndexFile, out: BinaryIO, options: ScipOptions, shows: Shows) -> Outcome:
+    """Writes the dump of an index. Raises NotADump or BadCall where it can't be made."""
+    writer = Writer(out)
+    outcome = converted(index, writer, options, shows)
+    return replace(outcome, over=writer.excesses())

@@ -71,13 +71,19 @@ class Documents:
 
 
 class Texts:
-    """The texts of documents, for those that don't count UTF-16 code units."""
+    """The texts of documents, for those that don't count UTF-16 code units. Files that couldn't be
+    read `before` are left out, and then no others."""
 
     def __init__(
-        self, documents: Documents, source: Optional[str], encoding: Optional[str], notes: Notes
+        self,
+        documents: Documents,
+        source: Optional[str],
+        encoding: Optional[str],
+        notes: Notes,
+        before: Optional[set[str]] = None,
     ) -> None:
         self.documents, self.source, self.encoding, self.notes = documents, source, encoding, notes
-        self.read = self.unread = 0
+        self.before, self.unread, self.read = before, set[str](), 0
 
     def columns(self, uri: str, document: Document) -> Optional[Columns]:
         """The columns of a document; None where its text can't be read. Raises BadCall where the
@@ -104,12 +110,16 @@ class Texts:
 
     def of_file(self, path: str, encoding: int) -> Optional[Columns]:
         """The columns of a document whose text is in a file below the folder of sources."""
+        if self.before is not None and path in self.before:
+            return None
         try:
             body = body_of(os.path.join(self.source or "", path))
         except BadCall as fault:
+            if self.before is not None:
+                raise
             reason = str(fault).rpartition(": ")[2]
             self.notes.leave_out(f"document whose file can't be read ({reason})", path)
-            self.unread += 1
+            self.unread.add(path)
             return None
         self.read += 1
         return Columns(encoding, body)
@@ -118,5 +128,5 @@ class Texts:
         """Raises BadCall where no file could be read of those that were to be."""
         if self.unread and not self.read:
             raise BadCall(
-                f"none of {self.unread} documents can be read below {self.source}: is it the folder that was indexed?"
+                f"none of {len(self.unread)} documents can be read below {self.source}: is it the folder that was indexed?"
             )

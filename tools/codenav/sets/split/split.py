@@ -23,7 +23,7 @@ from codenav.faults import BadCall, Unfit
 from codenav.limits import MOST_ELEMENTS
 from codenav.outcome import Outcome
 from codenav.progress import Shows
-from codenav.sets.files import MANIFEST, drop_others, put_manifest, read_head
+from codenav.sets.files import MANIFEST, drop_others, put_manifest, read_head, unchanged_at_fault
 from codenav.sets.manifest import DIGITS, DocumentEntry, Head, PartEntry
 from codenav.sets.split.crossing import Cut, Shared
 from codenav.sets.split.cuts import TooLarge, planned
@@ -233,14 +233,15 @@ def split_given(given: Given, options: SplitOptions, folder: str, shows: Shows) 
     tags = CutTags([b""] * cut.parts)
     if options.tags:
         tags = cut_tags(options.tags, options.tags_folder, maps_of([*options.maps]), firsts)
-    os.makedirs(folder, exist_ok=True)
     shows.begin("split", cut.parts, " parts")
     writer = Writer(cut, options.name, options.profile, given.hovers, folder, tags.bodies)
-    written: list[Written] = []
-    for part in writer.write_all(options.jobs or len(os.sched_getaffinity(0))):
-        written.append(part)
-        shows.at(len(written))
-    head = put_head(cut, written, options, folder)
+    with unchanged_at_fault(folder, options.name):
+        written: list[Written] = []
+        for part in writer.write_all(options.jobs or len(os.sched_getaffinity(0))):
+            written.append(part)
+            shows.at(len(written))
+        head = put_head(cut, written, options, folder)
+    drop_others(folder, head.name, head.projects())
     flat, hidden = cut.flat, len(cut.shared.hidden)
     counts = elements, len(flat.keys), hidden, flat.cut_short
     made = SetFiles(folder, head, *counts, tuple(left_out), tags.left_out, reading)
@@ -249,7 +250,7 @@ def split_given(given: Given, options: SplitOptions, folder: str, shows: Shows) 
 
 
 def put_head(cut: Cut, written: Sequence[Written], options: SplitOptions, folder: str) -> Head:
-    """Writes the manifest, and removes the parts of before; answers what it says."""
+    """Writes the manifest; answers what it says."""
     documents = documents_of(cut, written, maps_of([*options.maps]))
     parts = tuple(
         PartEntry(part.project, part.elements, cut.flat.uris[first])
@@ -257,6 +258,4 @@ def put_head(cut: Cut, written: Sequence[Written], options: SplitOptions, folder
     )
     where, count = "; ".join(options.maps), len(documents)
     head = Head(options.name, options.revision, where, count, profile=options.profile, parts=parts)
-    head = put_manifest(folder, head, documents)
-    drop_others(folder, head)
-    return head
+    return put_manifest(folder, head, documents)

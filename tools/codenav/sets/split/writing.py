@@ -3,11 +3,15 @@
 import gc
 import multiprocessing
 import os
+import signal
+from contextlib import suppress
 from dataclasses import dataclass
-from typing import Iterator, Optional, Sequence
+from multiprocessing.connection import Connection
+from typing import Iterator, Sequence, Union
 
-from codenav.faults import Unfit
+from codenav.faults import Fault, Unfit
 from codenav.limits import MOST_LINE_BYTES
+from codenav.program import end_with_parent
 from codenav.sets.files import put_file
 from codenav.sets.manifest import part_name
 from codenav.sets.split.crossing import Cut
@@ -56,28 +60,67 @@ class Writer:
 
     def write_all(self, processes: int) -> Iterator[Written]:
         """Writes all parts, in as many processes side by side, and answers them in order."""
-        global WRITER
-        WRITER = self
         parts = range(self.cut.parts)
         if processes < 2 or len(parts) < 2:
             yield from map(self.write, parts)
             return
         gc.freeze()
-        count = min(processes, len(parts))
-        with multiprocessing.get_context("fork").Pool(count, maxtasksperchild=PARTS_EACH) as pool:
-            yield from pool.imap(write_part, parts)
-            # the processes end by themselves, not by a signal
-            pool.close()
-            pool.join()
+        each = min(PARTS_EACH, -(-len(parts) // processes))
+        waiting = [parts[at : at + each] for at in range(0, len(parts), each)]
+        working: list[Working] = []
+        try:
+            while waiting or working:
+                while waiting and len(working) < processes:
+                    working.append(Working(self, waiting.pop(0)))
+                yield from working[0].written()
+                del working[0]
+        finally:
+            for one in working:
+                one.end()
 
 
-WRITER: Optional[Writer] = None
+class Working:
+    """A process of its own that writes some parts, and ends by itself."""
+
+    def __init__(self, writer: Writer, parts: Sequence[int]) -> None:
+        context = multiprocessing.get_context("fork")
+        self.told, tells = context.Pipe(False)
+        with tells:
+            self.process = context.Process(target=work, args=(writer, parts, tells), daemon=True)
+            self.process.start()
+
+    def written(self) -> list[Written]:
+        """The parts, once it has written them. Raises what it raised, and ChildProcessError where it
+        was killed."""
+        try:
+            found: Union[list[Written], Fault, OSError] = self.told.recv()
+        except EOFError:
+            self.process.join()
+            text = f"a process that writes parts ended with status {self.process.exitcode}"
+            raise ChildProcessError(text) from None
+        self.end()
+        if isinstance(found, list):
+            return found
+        raise found
+
+    def end(self) -> None:
+        """Ends it, where it's there."""
+        self.process.kill()
+        self.process.join()
+        self.told.close()
 
 
-def write_part(part: int) -> Written:
-    """Writes one part in a process of its own."""
-    assert WRITER is not None
-    return WRITER.write(part)
+def work(writer: Writer, parts: Sequence[int], tells: Connection) -> None:
+    """Writes parts in a process of its own, which ends with the one that started it."""
+    signal.signal(signal.SIGTERM, signal.SIG_DFL)
+    signal.signal(signal.SIGINT, signal.SIG_IGN)
+    end_with_parent()
+    try:
+        found: Union[list[Written], Fault, OSError] = [writer.write(part) for part in parts]
+    except (Fault, OSError) as fault:
+        found = fault
+    with suppress(OSError):
+        tells.send(found)
 
 
 def refuse_long_lines(lines: Sequence[str]) -> None:

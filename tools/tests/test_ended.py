@@ -1,0 +1,142 @@
+"""Tests of calls that are ended in their midst: nothing that they started goes on, and no file
+stays."""
+
+import contextlib
+import io
+import os
+import signal
+import subprocess
+import tempfile
+import time
+import unittest
+from pathlib import Path
+from typing import ContextManager
+from unittest import mock
+from unittest.mock import DEFAULT
+
+from codenav.cli.prepare import PREPARE
+from codenav.faults import BadCall
+from codenav.index.indexers import indexed
+from codenav.progress import Quiet
+from codenav.sets.split.writing import Writer
+from codenav.texts.decoded import body_of
+from tests.packages import needs
+from tests.servers import TOP, command
+
+RAW = os.path.join(TOP, "demo", "crate.raw.lsif")
+BODY = "codenav.dumps.scip.documents.body_of"
+SECONDS = 60
+GOES_ON = 15
+
+
+def processes_with(mark: str) -> list[str]:
+    """The processes whose environment has a text, once they had the time to end."""
+    found: list[str] = []
+    until = time.monotonic() + GOES_ON
+    while True:
+        found.clear()
+        for path in Path("/proc").glob("[0-9]*"):
+            with contextlib.suppress(OSError):
+                if mark.encode() in (path / "environ").read_bytes():
+                    found.append((path / "cmdline").read_text().replace("\0", " "))
+        if not found or time.monotonic() > until:
+            return found
+        time.sleep(0.1)
+
+
+class Ended(unittest.TestCase):
+    def setUp(self) -> None:
+        self.folder = self.enterContext(tempfile.TemporaryDirectory())
+        self.home = self.enterContext(tempfile.TemporaryDirectory())
+
+    def test_signals(self) -> None:
+        """The indexer, and what it started, ends with a publish."""
+        lines = ["sleep 300", "sleep 300; true", "(sleep 300 & wait) & sleep 300"]
+        rows = [
+            (signal.SIGTERM, 143, "codenav publish: ended by SIGTERM\n"),
+            (signal.SIGINT, 130, "codenav publish: ended by Ctrl-C\n"),
+            (signal.SIGKILL, -9, ""),
+        ]
+        for line in lines:
+            for number, status, text in rows:
+                with self.subTest(line=line, number=number):
+                    self.assertEqual(self.ended(line, number), (status, text, []))
+        self.assertEqual(os.listdir(self.folder), [])
+
+    def ended(self, line: str, number: int) -> tuple[int, str, list[str]]:
+        """The status of a publish that a signal ends while it indexes, what it said, and what goes
+        on after it."""
+        begun, mark = os.path.join(self.home, "begun"), f"CODENAV_ENDED={self.folder}"
+        with tempfile.TemporaryDirectory() as work:
+            words = ["--dry-run", "--index", f"touch {begun}; {line}", "http://127.0.0.1:1", "app"]
+            env = {**os.environ, "TMPDIR": work, **dict([mark.split("=")])}
+            with contextlib.suppress(FileNotFoundError):
+                os.unlink(begun)
+            with subprocess.Popen(
+                [*command("publish"), *words, self.folder],
+                stderr=subprocess.PIPE,
+                text=True,
+                env=env,
+            ) as call:
+                until = time.monotonic() + SECONDS
+                while not os.path.exists(begun) and time.monotonic() < until:
+                    time.sleep(0.05)
+                call.send_signal(number)
+                _, said = call.communicate(timeout=SECONDS)
+            left = processes_with(mark)
+            if number != signal.SIGKILL:
+                self.assertEqual(os.listdir(work), [])
+        return call.returncode, said, left
+
+    def test_an_earlier_index(self) -> None:
+        """What an earlier call kept isn't taken for what an indexer wrote."""
+        rows = [('cp "$RAW" "$OUT"', "index.out"), ('cat "$RAW"', "index.raw")]
+        with mock.patch.dict(os.environ, {"RAW": RAW}):
+            for line, name in [*rows, *rows]:
+                found = indexed(line, TOP, "app", self.folder, Quiet())
+                self.assertEqual(os.path.basename(found), name)
+            indexed(rows[0][0], TOP, "app", self.folder, Quiet())
+            with self.assertRaisesRegex(BadCall, "^the indexer wrote nothing: true$"):
+                indexed("true", TOP, "app", self.folder, Quiet())
+
+    def test_a_writer(self) -> None:
+        """Where a process that writes parts is killed, or can't write, the call ends by a line, and
+        the folder is as it was."""
+        dies = mock.patch.object(Writer, "write", lambda *_: os.kill(os.getpid(), signal.SIGKILL))
+        full = OSError(28, "No space left on device", "x.lsif")
+        fails = mock.patch.object(Writer, "write", mock.Mock(side_effect=full))
+        rows: list[tuple[ContextManager[object], str]] = [
+            (dies, "a process that writes parts ended with status -9"),
+            (fails, "x.lsif: No space left on device"),
+        ]
+        out = os.path.join(self.folder, "set")
+        words = ["--set", "--name", "app", "--elements", "185", "--jobs", "2", RAW, out]
+        for patch, text in rows:
+            with patch, contextlib.redirect_stderr(io.StringIO()) as said:
+                status = PREPARE.main(words)
+            self.assertEqual((status, said.getvalue()), (2, f"codenav prepare: {text}\n"))
+            self.assertEqual(os.listdir(self.folder), [])
+
+    def test_a_text_that_is_gone(self) -> None:
+        """An index is read twice: a text that can't be had any more then is no less to be there."""
+        needs("google.protobuf", "python3-protobuf")
+        crate, out = os.path.join(TOP, "demo", "crate"), os.path.join(self.folder, "out.lsif")
+        words = ["--source", crate, f"{crate}.scip", out]
+        line = "left out: document whose file can't be read (gone): 1, the first at src/lib.rs"
+        for number, status, text in (
+            (1, 1, line),
+            (3, 2, "src/lib.rs: gone"),
+            (4, 2, "src/lib.rs: gone"),
+        ):
+            read = [DEFAULT] * (number - 1) + [BadCall("src/lib.rs: gone")] + [DEFAULT] * 4
+            with mock.patch(BODY, mock.Mock(wraps=body_of, side_effect=read)):
+                with contextlib.redirect_stderr(io.StringIO()) as said:
+                    self.assertEqual(PREPARE.main(words), status)
+            self.assertIn(text, said.getvalue())
+            self.assertEqual(os.path.exists(out), status == 1)
+            with contextlib.suppress(FileNotFoundError):
+                os.unlink(out)
+
+
+if __name__ == "__main__":
+    unittest.main()
