@@ -155,7 +155,7 @@ class Logins(InRepository):
         url = f"http://127.0.0.1:{server.server_port}"
         path = self.write("a.rs", "x\n")
         self.write(FILE, f'server = "{url}"\nproject = "app"\n')
-        hint = "that of the environment goes to a server that CODENAV_URL or the call names"
+        hint = "that of the environment goes to the server of CODENAV_URL or else of the call"
         cases: list[tuple[list[str], str, bool]] = [
             ([], "", False),
             ([], "http://127.0.0.1:1", False),
@@ -166,12 +166,12 @@ class Logins(InRepository):
         for words, named, is_sent in cases:
             variables = {"CODENAV_TOKEN": "secret", "CODENAV_URL": named, "NETRC": os.devnull}
             with mock.patch.dict(os.environ, variables), mock.patch.object(
-                login, "BY_CALL", set()
-            ), mock.patch.object(login, "BY_FILES", set()):
+                login, "NAMED", set()
+            ):
                 seen.clear()
                 status, _, said = quietly(ASK.main, *words, "hover", path, "1", "1")
             self.assertEqual((status, seen), (2, ["Bearer secret" if is_sent else None]), words)
-            self.assertEqual(hint in said, not is_sent and not words, said)
+            self.assertEqual(hint in said, not is_sent, said)
 
 
 if __name__ == "__main__":

@@ -11,13 +11,13 @@ from codenav.asking.project import Project, Reply
 from codenav.asking.tags import Names, Tag
 from codenav.cli.asking import Asking, add_asking, add_by_name
 from codenav.cli.command import Command
-from codenav.cli.options import Help, add_server, first_place
+from codenav.cli.options import Help, add_server, first_place, named_all
 from codenav.cli.show import Shown
 from codenav.client.fetch import fetch_from
 from codenav.client.http import SECONDS
 from codenav.faults import NoReply
 from codenav.kinds import hover_text
-from codenav.settings.found import FILE, Settings, settings_by
+from codenav.settings.found import FILE, Settings, servers_above, settings_by
 from codenav.texts.decoded import counts_bytes, lines_of
 from codenav.texts.places import Maps, Place, asked_path, character_at, path_of, place_line, uri_of
 from codenav.texts.today import NotThere, Today, is_whole_file, position_of
@@ -46,7 +46,7 @@ class AskCall(Asking):
     line = 0
     column = 0
     all_projects = False
-    servers: Optional[str] = None
+    servers = ""
     name = ""
     prefix: Optional[str] = None
 
@@ -70,9 +70,11 @@ def tags_of(call: AskCall, settings: Settings, project: Project) -> list[Tag]:
     parameters = {"name": call.name} if call.prefix is None else {"prefix": call.prefix}
     if call.all_projects:
         # here, since few calls need it
-        from codenav.asking.all_servers import names_of_all, servers_given
+        from codenav.asking.all_servers import names_of_all
+        from codenav.sets.ring import servers_of
 
-        if servers := servers_given(call.servers, os.curdir):
+        given = named_all(call.servers) if call.servers else servers_above(os.curdir)
+        if servers := servers_of(given) if given else []:
             return names_of_all(
                 servers, settings.project, parameters, lambda url: fetch_from(url, SECONDS)
             )

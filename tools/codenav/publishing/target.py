@@ -37,9 +37,11 @@ class Target:
         return self.server if is_front else ""
 
     def reach(self) -> None:
-        """Asks each server for its projects. Raises NoReply where one doesn't answer."""
+        """Asks each server for a name, whose answer is short. Raises NoReply where one doesn't
+        answer."""
+        asked = {"name": self.project, "project": set_name(self.project)}
         for server in self.servers or (self.server,):
-            found_in(request_again(address(server, "/projects", {}), "GET"), "projects")
+            found_in(request_again(address(server, "/names", asked), "GET"), "tags")
 
 
 def target_at(

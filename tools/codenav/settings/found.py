@@ -5,7 +5,6 @@ import os
 from typing import Any, Iterator, NamedTuple, Optional
 
 from codenav.addresses import folder_address
-from codenav.client.login import named_by_call, named_by_file
 from codenav.faults import BadCall
 from codenav.names import project_of, server_of, set_name
 from codenav.texts.decoded import body_of
@@ -34,11 +33,6 @@ def name_of(text: str) -> str:
     """The text, where it's the name of a project, or of a set as `NAME@BRANCH`. Raises BadCall."""
     set_name(text) if "@" in text else project_of(text)
     return text
-
-
-def given_server(url: str) -> str:
-    """The address of a server that a command line names. Raises BadCall."""
-    return named_by_call(server_of(url))
 
 
 class Settings(NamedTuple):
@@ -92,7 +86,8 @@ def found_in_file(path: str) -> dict[str, Any]:
             )
     for key in ("server", "servers"):
         try:
-            named_by_file([server_of(text.strip()) for text in texts_in(found.get(key, []))])
+            for text in texts_in(found.get(key, [])):
+                server_of(text.strip())
         except BadCall as fault:
             raise BadCall(f"{path}: {key}: {fault}") from None
     return found
