@@ -12,7 +12,7 @@ from codenav.asking.by_name import has_dump, has_tags
 from codenav.asking.index import Found, Index, order_of_tag
 from codenav.client.fetch import Fetch
 from codenav.faults import NoReply
-from codenav.names import set_name
+from codenav.names import stored_name
 from codenav.sets.ring import Ring
 
 
@@ -42,7 +42,7 @@ def names_of_all(
             holders.setdefault(tag["project"], {}).setdefault(url, []).append(tag)
     kept, ring = [], Ring(servers)
     for project, own in holders.items():
-        home = ring.home(set_name(project) if "@" in project else project)
+        home = ring.home(stored_name(project))
         if home not in own:
             # it may have come there since its home was asked
             index = Index(project, fetch_from(home))

@@ -4,7 +4,7 @@ from dataclasses import dataclass
 
 from codenav.client.http import address, found_in, request_again
 from codenav.faults import BadCall
-from codenav.names import project_of, server_of, set_name
+from codenav.names import project_of, server_of, set_name, stored_name
 from codenav.sets.ring import home_of, named_in_front
 from codenav.sets.surface.made import surface_name
 
@@ -39,7 +39,8 @@ class Target:
     def reach(self) -> None:
         """Asks each server for a name, whose answer is short. Raises NoReply where one doesn't
         answer."""
-        asked = {"name": self.project, "project": set_name(self.project)}
+        own = stored_name(self.project)
+        asked = {"name": own, "project": own}
         for server in self.servers or (self.server,):
             found_in(request_again(address(server, "/names", asked), "GET"), "tags")
 

@@ -6,7 +6,7 @@ from typing import Any, Iterator, NamedTuple, Optional
 
 from codenav.addresses import folder_address
 from codenav.faults import BadCall
-from codenav.names import project_of, server_of, set_name
+from codenav.names import project_of, server_of, stored_name
 from codenav.texts.decoded import body_of
 from codenav.texts.places import Maps, link_map
 from codenav.texts.sources import Source, sources_of
@@ -31,7 +31,7 @@ MOST_BYTES, MOST_DOTS = 65_536, 200
 
 def name_of(text: str) -> str:
     """The text, where it's the name of a project, or of a set as `NAME@BRANCH`. Raises BadCall."""
-    set_name(text) if "@" in text else project_of(text)
+    stored_name(text)
     return text
 
 
