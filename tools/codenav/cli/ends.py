@@ -24,9 +24,20 @@ def raise_signal(number: int, _: object) -> NoReturn:
     raise Signalled(number)
 
 
+def drop_output() -> None:
+    """Has what couldn't be printed go nowhere, so that its fault isn't met again."""
+    os.dup2(os.open(os.devnull, os.O_WRONLY), sys.stdout.fileno())
+
+
 def text_of(fault: OSError) -> str:
     """What a fault of the system is said by."""
-    return f"{fault.filename}: {fault.strerror}" if fault.filename else str(fault)
+    name = fault.filename
+    try:
+        sys.stdout.flush()
+    except OSError:
+        name = name or "standard output"
+        drop_output()
+    return f"{name}: {fault.strerror}" if name else fault.strerror or str(fault)
 
 
 def status_of(tool: str, call: Callable[[], int]) -> int:
@@ -39,7 +50,7 @@ def status_of(tool: str, call: Callable[[], int]) -> int:
         sys.stdout.flush()
         return status
     except BrokenPipeError:
-        os.dup2(os.open(os.devnull, os.O_WRONLY), sys.stdout.fileno())
+        drop_output()
         return CLOSED_PIPE
     except (KeyboardInterrupt, Signalled) as end:
         number = end.number if isinstance(end, Signalled) else signal.SIGINT

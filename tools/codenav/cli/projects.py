@@ -6,10 +6,11 @@ from dataclasses import dataclass
 
 from codenav.cli.command import Command
 from codenav.cli.options import add_retry, add_server
+from codenav.client.http import address, found_in, request_again
 from codenav.client.projects import listed, removed
 from codenav.names import SET, server_of, stored_name
 from codenav.sets.listed import by_names
-from codenav.sets.manifest import NotAManifest
+from codenav.sets.manifest import ABOUT, PARTS
 from codenav.sets.publish.publish import remove_set
 from codenav.sets.publish.store import Store
 from codenav.settings.found import name_of
@@ -58,20 +59,21 @@ def add_remove(parser: argparse.ArgumentParser) -> None:
 
 
 def removed_set(server: str, name: str, retry: bool) -> int:
-    """Removes a set, and answers how many parts it had; none where no set has the name, whatever
-    else is called as its manifest would be."""
-    try:
-        return remove_set(Store(server, retry), name) if SET.fullmatch(name) else 0
-    except NotAManifest:
+    """Removes a set, and answers how many parts it had; none where there is no set of the name."""
+    if not SET.fullmatch(name):
         return 0
+    asked = address(server, "/names", {"name": f"{ABOUT}set", "project": name + PARTS})
+    is_there = found_in(request_again(asked, "GET", retry=retry), "tags")
+    return remove_set(Store(server, retry), name) if is_there else 0
 
 
 def remove(call: RemoveCall) -> int:
     """Removes what has a name, a project or a set, and says whether there was something."""
     server, shown = server_of(call.url), name_of(call.project)
     name = stored_name(shown)
+    was_project = removed(server, name, call.retry)
     parts = removed_set(server, name, call.retry)
-    was_there = removed(server, name, call.retry) or parts > 0
+    was_there = was_project or parts > 0
     if call.json:
         print(json.dumps({"removed": was_there}, separators=(",", ":")))
     else:
