@@ -17,14 +17,17 @@ from codenav.browse.answers import Browser
 from codenav.browse.folder import Folder
 from codenav.browse.outline import MOST_LETTERS, Outlines
 from codenav.cli.ask import ASK
-from codenav.client import fetch
-from codenav.client.http import address, request
+from codenav.cli.command import Command
+from codenav.cli.projects import REMOVE
+from codenav.cli.publish import PUBLISH
+from codenav.client import http
+from codenav.client.http import exchange
 from codenav.lsp.bridge import Bridge
 from codenav.sets.publish.store import Store
 from codenav.settings.found import Settings
 from codenav.texts.decoded import Text, text_of
 from codenav.texts.places import Place, place_line, uri_of
-from tests.servers import OnServer
+from tests.servers import TOP, OnServer
 from tests.test_kept_revision import quietly
 
 SECONDS = 1.0
@@ -198,24 +201,33 @@ class Requests(OnServer):
         store.put("app", "lsif", dump("file:///a.c", [(0, 0, 3)]), "k2")
         asked: list[str] = []
 
-        def counting(url: str, **more: Any) -> Any:
-            asked.append(url)
-            return request(url, **more)
+        def counting(*given: Any) -> Any:
+            asked.append(given[2])
+            return exchange(*given)
 
         servers = ["--all-projects", "--servers", f"{self.url},http://localhost:{self.port}"]
-        rows: list[tuple[list[str], int]] = [
-            (["app", "names", "run"], 5),
-            (["tagged", "names", "run"], 2),
-            (["tagged", "names", "ran"], 30),
-            (["none", "names", *servers, "run"], 30),
+        at = [os.path.join(TOP, "demo", "crate", "src", "lib.rs"), "18", "12"]
+        crate = ["--no-tags", "--dump", os.path.join(TOP, "demo", "crate.raw.lsif")]
+        rows: list[tuple[Command[Any], list[str], int]] = [
+            (ASK, [self.url, "app", "names", "run"], 5),
+            (ASK, [self.url, "tagged", "names", "run"], 2),
+            (ASK, [self.url, "tagged", "names", "ran"], 30),
+            (ASK, [self.url, "none", "names", *servers, "run"], 30),
+            (ASK, [self.url, "none", "definition", *at], 60),
+            (PUBLISH, [*crate, self.url, "crate", os.path.dirname(at[0])], 3),
+            (PUBLISH, [*crate, self.url, "crate", os.path.dirname(at[0])], 3),
+            (ASK, [self.url, "crate", "definition", *at], 4),
+            (REMOVE, [self.url, "crate"], 2),
+            (REMOVE, [self.url, "crate"], 2),
         ]
-        with mock.patch.object(fetch, "request", counting):
-            for words, most in rows:
-                with self.subTest(words):
+        with mock.patch.object(http, "exchange", counting):
+            for tool, words, most in rows:
+                with self.subTest(tool.word, words=words):
                     asked.clear()
-                    quietly(ASK.main, self.url, *words)
-                    self.assertLessEqual(len(asked), most)
-                    self.assertNotIn(address(self.url, "/projects", {}), asked)
+                    quietly(tool.main, *words)
+                    self.assertLessEqual(len(asked), most, asked)
+                    self.assertGreater(len(asked), 0)
+                    self.assertNotIn("/projects", asked)
 
     def test_letters_of_an_outline(self) -> None:
         """A file of many ideographs is asked for some of them at a time."""
