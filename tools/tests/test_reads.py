@@ -27,6 +27,7 @@ from codenav.sets.publish.store import Store
 from codenav.settings.found import Settings
 from codenav.texts.decoded import Text, text_of
 from codenav.texts.places import Place, place_line, uri_of
+from codenav.texts.revisions import Batch
 from tests.servers import TOP, OnServer
 from tests.test_kept_revision import quietly
 
@@ -99,24 +100,26 @@ class Reads(OnServer):
         if tags:
             store.put("app", "tags", tags.encode(), f"t{key}".replace(".", "-"))
 
-    def calls(self) -> dict[str, Callable[[], object]]:
-        """Questions of each tool."""
+    def calls(self, revisions: list[str]) -> dict[str, Callable[[], object]]:
+        """Questions of each tool, of an index of a revision, if it's known."""
+        own = [f"--revision={one}" for one in revisions]
         at = {"line": 0, "character": 4}
         found: dict[str, Callable[[], object]] = {}
         for what in "definition", "references", "hover":
-            place = [self.url, "app", what, self.file, "1", "5"]
+            place = [*own, self.url, "app", what, self.file, "1", "5"]
             found[f"ask {what}"] = lambda place=place: quietly(ASK.main, *place)  # type: ignore[misc]
         for what, words in {
             "names": ["names", "--prefix", "wo"],
             "by name": ["definition", "--by-name", self.file, "1", "5"],
         }.items():
-            place = ["--tags", f"app={self.folder}", self.url, "app", *words]
+            place = [*own, "--tags", f"app={self.folder}", self.url, "app", *words]
             found[f"ask {what}"] = lambda place=place: quietly(ASK.main, *place)  # type: ignore[misc]
-        browser = Browser(Folder(self.folder), Settings(self.url, "app", self.folder))
+        settings = Settings(self.url, "app", self.folder, revisions=tuple(revisions))
+        browser = Browser(Folder(self.folder), settings)
         shown = {"path": "a.c", "line": "0", "character": "4"}
         for what in "definition", "references", "hover":
-            own = {**shown, "what": what}
-            found[f"page {what}"] = lambda own=own: browser.asked(own)  # type: ignore[misc]
+            asked = {**shown, "what": what}
+            found[f"page {what}"] = lambda asked=asked: browser.asked(asked)  # type: ignore[misc]
         found["page names"] = lambda: browser.names({"prefix": "wo"})
         found["page outline"] = lambda: browser.outline({"path": "a.c"})
         return found
@@ -134,9 +137,18 @@ class Reads(OnServer):
                     subprocess.run([*git, *words], check=True)
                 with open(self.file, "a", encoding="utf-8") as out:
                     out.write("\n")
-            for name, call in self.calls().items():
-                with self.subTest(name, is_known=is_known):
+            for name, call in self.calls(["HEAD"] * is_known).items():
+                asked: Counter[str] = Counter()
+
+                def counting(batch: Batch, line: str) -> bytes:
+                    asked.update([line] if line.endswith(" a.c") else [])
+                    return Batch.answered(batch, line)  # type: ignore[attr-defined,no-any-return]
+
+                with self.subTest(name, is_known=is_known), mock.patch.object(
+                    Batch, "answered", Batch.asked, create=True
+                ), mock.patch.object(Batch, "asked", counting):
                     self.assertEqual(opened(call, self.file), 1)
+                    self.assertLessEqual(max(asked.values(), default=0), 1)
 
     def test_an_editor(self) -> None:
         self.put("int word(void);\n", [(0, 4, 8)], 'word\ta.c\t1;"\tf\n')

@@ -3,8 +3,10 @@ line."""
 
 import os
 from typing import Any, Iterator, NamedTuple, Optional
+from urllib.parse import urlsplit
 
 from codenav.addresses import folder_address
+from codenav.client.login import origin
 from codenav.faults import BadCall
 from codenav.names import project_of, server_of, stored_name
 from codenav.texts.decoded import body_of
@@ -166,24 +168,43 @@ def servers_above(folder: str) -> list[str]:
     return list(found_in_file(path).get("servers", [])) if path else []
 
 
+def said_besides(path: Optional[str], given: Settings) -> Optional[Settings]:
+    """What a file of settings says, where it's of the project of a call, and of no other server."""
+    try:
+        found = found_in_file(path) if path else {}
+        server = server_of(found.get("server", given.server))
+        is_there = origin(urlsplit(server)) == origin(urlsplit(given.server))
+        is_own = is_there and given.project in (found.get("project"), found.get("set"))
+        folder = os.path.dirname(path or "")
+        return settings_of({**found, "server": given.server}, folder) if is_own else None
+    except BadCall:
+        return None
+
+
 def settings_by(given: Settings, folder: str) -> Settings:
-    """What a command line says, whose server and project may be empty. Without a project it's that
-    of the nearest `.codenav.toml` of a folder and those above it, with what the file says of it
-    besides; without a server it's that of CODENAV_URL or of the file. Raises BadCall."""
+    """What a command line says, whose server and project may be empty, and what the nearest
+    `.codenav.toml` of a folder and those above it says besides, where it's of the same project.
+    Without a project it's the file's; without a server it's that of CODENAV_URL or of the file.
+    Raises BadCall."""
     path = nearest(folder)
+    own: Optional[Settings]
     if given.project:
         server = given.server or os.environ.get("CODENAV_URL")
         if not server and path:
             server = found_in_file(path).get("server")
         if not server:
             raise BadCall(f"no server: neither CODENAV_URL nor a {FILE} above {folder} has one")
-        return given._replace(server=server_of(server), project=name_of(given.project))
-    if not path:
+        given = given._replace(server=server_of(server), project=name_of(given.project))
+        own = said_besides(path, given)
+    elif path:
+        own = settings_in(path)
+    else:
         raise BadCall(f"no project, and no {FILE} above {folder} says one")
-    own = settings_in(path)
+    if own is None:
+        return given
     is_said = any("=" not in one for one in given.revisions)
     return Settings(
-        server_of(given.server) if given.server else own.server,
+        given.server or own.server,
         own.project,
         own.folder,
         [*given.maps, *own.maps],
