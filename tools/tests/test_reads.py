@@ -103,7 +103,6 @@ class Reads(OnServer):
     def calls(self, revisions: list[str]) -> dict[str, Callable[[], object]]:
         """Questions of each tool, of an index of a revision, if it's known."""
         own = [f"--revision={one}" for one in revisions]
-        at = {"line": 0, "character": 4}
         found: dict[str, Callable[[], object]] = {}
         for what in "definition", "references", "hover":
             place = [*own, self.url, "app", what, self.file, "1", "5"]

@@ -2,7 +2,6 @@
 
 import argparse
 import os
-from typing import Optional
 
 from codenav.client.login import named
 

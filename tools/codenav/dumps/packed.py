@@ -2,8 +2,8 @@
 
 import os
 import shutil
-import tempfile
 import sys
+import tempfile
 import zlib
 from contextlib import contextmanager
 from errno import EISDIR
