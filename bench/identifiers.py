@@ -13,7 +13,7 @@ from servers import TOP
 from codenav.cli.upload import UPLOAD
 from codenav.faults import NoReply
 from codenav.program import Program
-from codenav.texts.places import lines_of
+from codenav.texts.decoded import lines_of
 
 LOADER = SourceFileLoader("scip_and_lsif", os.path.join(TOP, "tools", "tests", "scip_and_lsif"))
 SPEC = spec_from_loader("scip_and_lsif", LOADER)

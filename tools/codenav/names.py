@@ -56,6 +56,11 @@ def set_name(text: str) -> str:
     return name
 
 
+def stored_name(text: str) -> str:
+    """The name that a project or a set has on the server. Raises BadCall."""
+    return set_name(text) if "@" in text else project_of(text)
+
+
 def shown_name(name: str) -> str:
     """The name of a set as its users write it."""
     base, between, branch = name.partition(BRANCH)

@@ -9,9 +9,7 @@ import sys
 import tempfile
 from contextlib import redirect_stderr, redirect_stdout
 from typing import Any
-from unittest import mock
 
-from codenav.cli import ask
 from codenav.cli.ask import ASK
 from codenav.cli.browse import BROWSE
 from codenav.cli.command import Command
@@ -20,7 +18,6 @@ from codenav.cli.prepare import PREPARE
 from codenav.cli.upload import UPLOAD
 from codenav.client.fetch import fetch_from
 from codenav.texts import places
-from codenav.texts.decoded import lines_of
 from tests.servers import TOP, OnServer, command
 
 CRATE = os.path.join(TOP, "demo", "crate")
@@ -162,15 +159,6 @@ class Asking(OnServer):
         [found] = fetch("/names", {"name": "is_warm", "project": "app"}, "tags")
         self.assertEqual((code, tag), (0, {**found, **today}))
         self.assertEqual(self.asked("--json", *words, "names", "none")[:2], (1, '{"tags":[]}\n'))
-
-    def test_many_places(self) -> None:
-        """A file is read once for all its places that are printed."""
-        file = os.path.join(CRATE, "src", "lib.rs")
-        found = [places.Place(file, 17, character) for character in range(12)]
-        with mock.patch.object(ask, "lines_of", wraps=lines_of) as read:
-            lines = ask.place_lines(found, False)
-        self.assertEqual(lines, [places.place_line(place, False) for place in found])
-        self.assertEqual(read.call_count, 1)
 
     def test_records(self) -> None:
         """The record of a call has what its parser may set."""

@@ -196,10 +196,10 @@ class Servers(unittest.TestCase):
 
     def test_a_proxy_before_publish(self) -> None:
         """What it refuses of an upload is its line too, behind those of the stages."""
-        projects_there = status("200 OK", body='{"projects":[]}')
+        there = status("200 OK", body='{"tags":[]}')
         refusal = status("413 Too Large", body=HTML)
         words = ["--no-tags", "--dump", RAW]
-        with environment(PATH="/no"), Peer(projects_there, refusal) as peer:
+        with environment(PATH="/no"), Peer(there, refusal) as peer:
             server = f"http://127.0.0.1:{peer.port}"
             found = called(PUBLISH.main, *words, server, "app", CRATE)
         self.assertEqual(found[:2], (2, ""), found)

@@ -16,7 +16,7 @@ from codenav.cli.ask import ASK
 from codenav.cli.browse import BROWSE, browser_of
 from codenav.cli.publish import PUBLISH
 from codenav.client import login
-from codenav.settings.found import FILE
+from codenav.settings.found import FILE, Settings, settings_by
 from tests.repository import InRepository
 from tests.servers import TOP, OnServer
 from tests.test_kept_revision import RAW, ROOT, quietly
@@ -89,6 +89,39 @@ class Written(OnServer, InRepository):
         status, _, said = self.published("--overwrite", *call)
         self.assertEqual((status, "its revision" in said), (0, False), said)
 
+    def test_what_the_call_does_not_say(self) -> None:
+        """A call that names the project of the settings, and no other server, leaves the rest to
+        them."""
+        here, other = "http://127.0.0.1:1", "http://127.0.0.1:2"
+        rest = 'revision = "old"\n[map]\n"file:///src" = "."\n'
+        own = ([("file:///src", self.top)], ("old",))
+        given = Settings("", "", self.top)
+        rows: list[tuple[str, str, Settings, Any]] = [
+            (f'server = "{here}"\nproject = "app"\n', "", given, own),
+            (f'server = "{here}"\nproject = "app"\n', "", given._replace(project="app"), own),
+            (f'server = "{here}"\nset = "app"\n', here, given._replace(project="app"), own),
+            ('project = "app"\n', other, given._replace(project="app"), own),
+            ('project = "app"\n', "", given._replace(server=other, project="app"), own),
+            (f'server = "{here}/"\nset = "a@b"\n', "", Settings(here, "a@b", self.top), own),
+            (f'server = "{here}"\nproject = "app"\n', "", Settings(other, "app", ""), ([], ())),
+            (f'server = "{here}"\nproject = "app"\n', other, Settings("", "app", ""), ([], ())),
+            (f'server = "{here}"\nproject = "app"\n', "", Settings("", "ap", ""), ([], ())),
+            ('project = "app"\nproject = 1\n', here, Settings("", "app", ""), ([], ())),
+            (
+                f'server = "{here}"\nproject = "app"\n',
+                "",
+                Settings("", "app", "", [("file:///b", "/b")], {}, ("new",)),
+                ([("file:///b", "/b"), *own[0]], ("old", "new")),
+            ),
+        ]
+        for text, url, call, wanted in rows:
+            self.write(FILE, text + rest)
+            with self.subTest(text, url=url, call=call), mock.patch.dict(
+                os.environ, {"CODENAV_URL": url}
+            ):
+                found = settings_by(call, self.top)
+                self.assertEqual((found.maps[: len(wanted[0])], found.revisions), wanted)
+
     def test_what_is_missing(self) -> None:
         place = [self.lib, "18", "12"]
         above = f"above {os.path.dirname(self.lib)}"
@@ -155,7 +188,7 @@ class Logins(InRepository):
         url = f"http://127.0.0.1:{server.server_port}"
         path = self.write("a.rs", "x\n")
         self.write(FILE, f'server = "{url}"\nproject = "app"\n')
-        hint = "that of the environment goes to a server that CODENAV_URL or the call names"
+        hint = "that of the environment goes to the server of CODENAV_URL or else of the call"
         cases: list[tuple[list[str], str, bool]] = [
             ([], "", False),
             ([], "http://127.0.0.1:1", False),
@@ -165,13 +198,11 @@ class Logins(InRepository):
         ]
         for words, named, is_sent in cases:
             variables = {"CODENAV_TOKEN": "secret", "CODENAV_URL": named, "NETRC": os.devnull}
-            with mock.patch.dict(os.environ, variables), mock.patch.object(
-                login, "BY_CALL", set()
-            ), mock.patch.object(login, "BY_FILES", set()):
+            with mock.patch.dict(os.environ, variables), mock.patch.object(login, "NAMED", set()):
                 seen.clear()
                 status, _, said = quietly(ASK.main, *words, "hover", path, "1", "1")
             self.assertEqual((status, seen), (2, ["Bearer secret" if is_sent else None]), words)
-            self.assertEqual(hint in said, not is_sent and not words, said)
+            self.assertEqual(hint in said, not is_sent, said)
 
 
 if __name__ == "__main__":

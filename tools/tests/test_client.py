@@ -16,6 +16,7 @@ from contextlib import contextmanager
 from typing import Callable, Iterator, Optional
 from unittest import mock
 
+from codenav.client import login
 from codenav.client.http import found_in, refusal_of, request, request_again
 from codenav.faults import BadCall, NoReply
 
@@ -229,48 +230,74 @@ class Requests(unittest.TestCase):
         )
 
 
+NETRC = "machine 127.0.0.1 login n password p\n"
+DEFAULT = "machine codenav.invalid login no password no\ndefault login n password p\n"
+BASIC, BEARER = "Basic " + base64.b64encode(b"n:p").decode(), "Bearer t"
+HERE, THERE = "http://127.0.0.1:{0}", "http://codenav.invalid"
+TOKEN, USER = {"CODENAV_TOKEN": "t\n"}, {"CODENAV_USER": "n:p"}
+LOGINS: list[tuple[str, str, str, dict[str, str], Optional[str]]] = [
+    # the server that's asked, one that the command line names, a netrc file, and the environment
+    (HERE, HERE, "", {}, None),
+    (HERE, HERE, "", {**TOKEN, **USER}, BEARER),
+    (HERE, "HTTP://127.0.0.1:{0}/", "", TOKEN, BEARER),
+    (HERE, HERE, "", USER, BASIC),
+    (HERE, THERE, "", TOKEN, None),
+    (HERE, "https://127.0.0.1:{0}", "", TOKEN, None),
+    (HERE, "http://127.0.0.1", "", USER, None),
+    (HERE, "", "", TOKEN, None),
+    (HERE, "", "", USER, None),
+    (HERE, "", "", {"CODENAV_URL": HERE, **TOKEN}, BEARER),
+    (HERE, "", "", {"CODENAV_URL": HERE + "/", **USER}, BASIC),
+    (HERE, "", "", {"CODENAV_URL": THERE, **TOKEN}, None),
+    (HERE, HERE, "", {"CODENAV_URL": THERE, **TOKEN}, None),
+    (HERE, "", "", {"CODENAV_URL": "https://127.0.0.1:{0}", **USER}, None),
+    (HERE, "", NETRC, {}, BASIC),
+    (HERE, HERE, NETRC, TOKEN, BEARER),
+    (HERE, "", NETRC, TOKEN, BASIC),
+    (HERE, HERE, DEFAULT, {}, BASIC),
+    (HERE, "", DEFAULT, {}, None),
+    (HERE, "", DEFAULT, {"CODENAV_URL": HERE}, BASIC),
+    (HERE, HERE, DEFAULT, {"CODENAV_URL": THERE}, None),
+    ("http://n:p@127.0.0.1:{0}", "", "", TOKEN, BASIC),
+]
+
+
 class Logins(unittest.TestCase):
-    def sent(self, at: str = "127.0.0.1:{0}", **variables: str) -> Optional[str]:
+    def sent(self, at: str, by_call: str, netrc: str, variables: dict[str, str]) -> Optional[str]:
         """The login that a request carries."""
-        with Peer(sends(FOUND)) as peer:
+        with Peer(sends(FOUND)) as peer, tempfile.NamedTemporaryFile("w") as file:
+            file.write(netrc)
+            file.flush()
             values = {name: value.format(peer.port) for name, value in variables.items()}
-            with environment(**values):
-                request(f"http://{at.format(peer.port)}/")
+            with environment(NETRC=file.name, **values), mock.patch.object(login, "NAMED", set()):
+                login.named(by_call.format(peer.port))
+                request(f"{at.format(peer.port)}/")
             fields = [line for line in peer.heads[0].split("\r\n") if line.startswith("Auth")]
             self.assertIn(f"Host: 127.0.0.1:{peer.port}", peer.heads[0].split("\r\n"))
         return fields[0].removeprefix("Authorization: ") if fields else None
 
-    def test_where_logins_come_from(self) -> None:
-        def basic(login: str) -> str:
-            return "Basic " + base64.b64encode(login.encode()).decode()
+    def test_where_logins_go(self) -> None:
+        for *row, wanted in LOGINS:
+            with self.subTest(row):
+                self.assertEqual(self.sent(*row), wanted)  # type: ignore[arg-type]
 
-        with tempfile.NamedTemporaryFile("w") as netrc:
-            netrc.write("machine 127.0.0.1 login n password p\n")
-            netrc.flush()
-            own = "http://127.0.0.1:{0}"
-            rows: list[tuple[str, dict[str, str], Optional[str]]] = [
-                ("127.0.0.1:{0}", {}, None),
-                ("u:p%40w@127.0.0.1:{0}", {"CODENAV_TOKEN": "t"}, basic("u:p@w")),
-                ("127.0.0.1:{0}", {"CODENAV_TOKEN": "t\n", "CODENAV_USER": "u:p"}, "Bearer t"),
-                ("127.0.0.1:{0}", {"CODENAV_USER": "u:p"}, basic("u:p")),
-                ("127.0.0.1:{0}", {"NETRC": netrc.name}, basic("n:p")),
-                ("127.0.0.1:{0}", {"NETRC": netrc.name, "CODENAV_TOKEN": "t"}, "Bearer t"),
-                ("127.0.0.1:{0}", {"CODENAV_URL": own, "CODENAV_TOKEN": "t"}, "Bearer t"),
-                ("127.0.0.1:{0}", {"CODENAV_URL": "http://h", "CODENAV_TOKEN": "t"}, None),
-                (
-                    "127.0.0.1:{0}",
-                    {"CODENAV_URL": "https://127.0.0.1:{0}", "CODENAV_USER": "u:p"},
-                    None,
-                ),
-            ]
-            for at, variables, wanted in rows:
-                with self.subTest(at, variables=variables):
-                    self.assertEqual(self.sent(at, **variables), wanted)
+    def test_a_server_that_leads_elsewhere(self) -> None:
+        """Nothing is sent there, whatever login the first server was sent."""
+        for code in "301 Moved", "302 Found", "303 See Other", "307 Again", "308 Moved":
+            with self.subTest(code), Peer() as other, environment(CODENAV_TOKEN="t"):
+                to = f"http://127.0.0.1:{other.port}/"
+                with Peer(status(code, f"Location: {to}")) as peer:
+                    url = f"http://127.0.0.1:{peer.port}"
+                    answer = request(login.named(url) + "/projects")
+                self.assertIn("Authorization: Bearer t", peer.heads[0])
+                self.assertEqual((answer.leads_to, answer.status), (to, int(code[:3])))
+                other.listener.setblocking(False)
+                self.assertRaises(BlockingIOError, other.listener.accept)
 
     def test_a_login_that_is_not_taken(self) -> None:
         with Peer(status("401 Unauthorized")) as peer, environment(CODENAV_TOKEN="t"):
             server = f"http://127.0.0.1:{peer.port}"
-            said = refusal_of(request(f"{server}/projects"))
+            said = refusal_of(request(login.named(server) + "/projects"))
         self.assertEqual(
             said,
             f"{server}: not a reply of codenav, status 401, the login that was sent isn't taken",
@@ -296,7 +323,7 @@ class Logins(unittest.TestCase):
                 with self.subTest(said), environment(**variables), self.assertRaises(
                     BadCall
                 ) as fault:
-                    request("http://127.0.0.1:1/")
+                    request(login.named("http://127.0.0.1:1/"))
                 self.assertTrue(str(fault.exception).startswith(said))
 
 

@@ -8,6 +8,7 @@ import shutil
 import signal
 import socket
 import subprocess
+import sys
 import tempfile
 import unittest
 import venv
@@ -137,6 +138,40 @@ class OneCommand(unittest.TestCase):
                 )
             line = b"codenav: standard output: No space left on device\n"
             self.assertEqual((done.stderr, done.returncode), (line, 2))
+
+    def test_an_interpreter_without_a_package(self) -> None:
+        """It's named, since another one may have it."""
+        with tempfile.NamedTemporaryFile() as index:
+            index.write(b"\n\2\x10\1")
+            index.flush()
+            _, *rest = command("prepare")
+            done = subprocess.run(
+                [sys.executable, "-S", *rest, index.name, os.devnull],
+                capture_output=True,
+                text=True,
+                check=False,
+            )
+        said = f"codenav prepare: it needs Debian's python3-protobuf, which {sys.executable} hasn't"
+        self.assertEqual((done.returncode, done.stdout, done.stderr), (2, "", said + "\n"))
+
+    def test_outputs_that_are_full(self) -> None:
+        base = os.path.join(TOP, "demo", "base.lsif")
+        for word, *words in (
+            ["why", base, "/a.ts", "1", "5"],
+            ["explain", base, "line 1: L06 x"],
+        ):
+            with self.subTest(word), open("/dev/full", "wb") as out:
+                call = [*command(word), *words]
+                for kept, name in ("", "standard output: "), ("1", ""):
+                    done = subprocess.run(
+                        call,
+                        stdout=out,
+                        stderr=subprocess.PIPE,
+                        env={**os.environ, "PYTHONUNBUFFERED": kept},
+                        check=False,
+                    )
+                    said = f"codenav {word}: {name}No space left on device\n"
+                    self.assertEqual((done.returncode, done.stderr.decode()), (2, said))
 
 
 class Installed(OnServer):

@@ -479,7 +479,8 @@ class Refused(Moved):
                 name = next(x for x in names if {home_of(some, x) for some in every} == {home})
                 status, faults = self.publish(name, servers)
                 if "/names" in replies:
-                    self.assertEqual(status, 0, faults)
+                    # each server is asked for a name first
+                    self.assertEqual(status, 0 if replies["/names"][0] == 200 else 2, faults)
                     continue
                 self.assertEqual((status, len(faults)), (2, 1), faults)
                 done = (

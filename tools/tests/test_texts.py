@@ -6,7 +6,7 @@ import unittest
 
 from codenav.faults import BadCall
 from codenav.texts.columns import UTF_8, UTF_16, UTF_32, Columns
-from codenav.texts.decoded import MOST_BYTES, counts_bytes, decoded, is_read_as, lines_of, text_of
+from codenav.texts.decoded import MOST_BYTES, decoded, is_read_as, lines_of, read_text, text_of
 
 TEXT = "caf\u00e9 = \U0001F600;\r\nx\n"
 READ: list[tuple[bytes, str]] = [
@@ -81,7 +81,7 @@ class Texts(unittest.TestCase):
             with open(path, "wb") as file:
                 file.write(b"\xef\xbb\xbfx\r\ncaf\xe9\n")
             self.assertEqual(lines_of(path), ["x", "caf\xe9", ""])
-            self.assertEqual([counts_bytes(path, line) for line in (1, 2, 3)], [False, True, False])
+            self.assertEqual(read_text(path).others, {1})
             with open(path, "wb") as file:
                 file.write(b"\xe9\0")
             pipe = os.path.join(folder, "pipe")

@@ -22,6 +22,7 @@ from codenav.dumps.tables import rows
 from codenav.dumps.tables.graph import Graph
 from codenav.dumps.tables.reader import Reader
 from codenav.texts import places
+from codenav.texts.decoded import Text
 from tests.servers import command, replying
 
 TOP = os.path.dirname(os.path.dirname(os.path.dirname(os.path.abspath(__file__))))
@@ -290,9 +291,9 @@ class Places(unittest.TestCase):
 
     def test_columns(self) -> None:
         self.assertEqual([places.units(self.TEXT[:n]) for n in range(6)], [0, 1, 2, 3, 5, 6])
-        self.assertEqual(
-            [places.characters(self.TEXT, n) for n in (0, 1, 2, 3, 5, 6, 8)], [0, 1, 2, 3, 4, 5, 7]
-        )
+        text = Text(self.TEXT)
+        found = [text.characters(0, n) for n in (0, 1, 2, 3, 5, 6, 8)]
+        self.assertEqual(found, [0, 1, 2, 3, 4, 5, 7])
 
     def test_addresses(self) -> None:
         maps = places.maps_of(["file:///src/x=/tmp/x", "http://h/y/=/tmp/x/y=z"])

@@ -189,7 +189,9 @@ class Uploads(OnServer):
                     self.make(first, url=url)
                     with Relay(url, lost, lambda: self.make(other, url=url)) as relay:
                         self.make(call, "--retry", url=relay.url)
-                    self.assertEqual((self.there(url), relay.taken), (wanted, lost + 1))
+                    # `remove` asks whether there is a set too
+                    taken = lost + 1 + (call == "-")
+                    self.assertEqual((self.there(url), relay.taken), (wanted, taken))
 
     def test_an_answer_that_was_lost_without_a_retry(self) -> None:
         with Relay(self.url, 1) as relay:

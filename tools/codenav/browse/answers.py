@@ -54,7 +54,7 @@ class Browser:
             raise Refused(400, "bad parameter")
         view = self.view(parameters)
         at = Place(view.path(parameters.get("path", "")), *position)
-        with view.lock:
+        with view.answering():
             view.text(at.name)
             try:
                 reply, notes = view.ask(what, at)
@@ -74,7 +74,11 @@ class Browser:
     def places(self, view: View, found: Any, path: str, what: str) -> dict[str, Any]:
         """Places, as they're listed: by files, each with the line that stands there. Those that
         aren't in the folder have no address."""
-        if what == "definition" and len(found) == 1 and is_whole_file(found[0], path):
+        if (
+            what == "definition"
+            and len(found) == 1
+            and is_whole_file(found[0], path, view.lines(path))
+        ):
             whole = "Nothing but a range over the whole file covers this place."
             return {"places": [], "said": whole}
         places = list({where(one): one for one in found}.values())
@@ -111,8 +115,8 @@ class Browser:
             return {**row, "file": inside, "text": "the file has no such line"}
         text = lines[line]
         indent = len(text) - len(text.lstrip())
-        start, end = character - indent, part_end(place, units(text)) - indent
         cut = text[indent : indent + MOST_CHARACTERS]
+        start, end = character - indent, part_end(place, indent + units(cut)) - indent
         address = href(inside, line, character, view.revision)
         return {**row, "file": inside, "text": cut, "start": start, "end": end, "href": address}
 
@@ -122,7 +126,7 @@ class Browser:
         if not prefix or "\0" in prefix:
             raise Refused(400, "bad parameter")
         view, names = self.view(parameters), Names()
-        with view.lock:
+        with view.answering():
             known = self.named(view, prefix, names)
             rows = [
                 {
@@ -163,7 +167,7 @@ class Browser:
         """The tags of a file, in the order of its lines."""
         view, name, names = self.view(parameters), parameters.get("path", ""), Names()
         path = view.path(name)
-        with view.lock:
+        with view.answering():
             rows = [
                 {
                     "name": tag["name"],
@@ -193,7 +197,9 @@ class Browser:
             outlines = self.outlines.setdefault(
                 project, Outlines(lambda prefix, own=project: self.tags_of(view, own, prefix))  # type: ignore[misc]
             )
-            tags = outlines.of(inside, text)
+            tags, left = outlines.of(inside, text)
+            if left:
+                view.notes.append(f"without names that begin with {left} other letters")
             yield from names.places(asked, tags, self.settings.tags_folder)
 
     def files(self, parameters: Parameters) -> dict[str, Any]:
@@ -209,7 +215,7 @@ class Browser:
         """The address of a place that stays: with the commit that has it."""
         view, name = self.view(parameters), parameters.get("path", "")
         path = view.path(name)
-        with view.lock:
+        with view.answering():
             commit, line, character = permalink(view, Place(path, *position_in(parameters)))
         return {
             "href": href(name, line, character, commit),

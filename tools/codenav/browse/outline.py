@@ -1,16 +1,17 @@
 """The tags of a file, by its project's tags: the server finds them by the beginnings of their names
-alone, so it's asked for each letter that a word of the file begins with, once.
+alone, so it's asked for each letter that a word of the file begins with, once: for some of them at
+a time, where the file has many.
 """
 
 import time
-from collections import defaultdict
+from collections import Counter, defaultdict
 from typing import Any, Callable
 
 from codenav.texts.moved.tokens import TOKEN
 
 SECONDS = 300.0
 """For so long the tags stand that were read."""
-MOST = 1_000
+MOST, MOST_LETTERS = 1_000, 100
 Tags = list[dict[str, Any]]
 
 
@@ -22,14 +23,17 @@ class Outlines:
         self.read_at: dict[str, float] = {}
         self.tags: dict[str, dict[str, Tags]] = {}
 
-    def of(self, file: str, text: str) -> Tags:
-        """The tags of a file, whose text is given, by the name that tags have for it."""
-        letters = {word[0] for word in TOKEN.findall(text)}
-        for letter in sorted(letters):
-            if time.monotonic() - self.read_at.get(letter, -SECONDS) >= SECONDS:
-                self.read(letter)
-        found = [tag for letter in sorted(letters) for tag in self.tags[letter].get(file, [])]
-        return found[:MOST]
+    def of(self, file: str, text: str) -> tuple[Tags, int]:
+        """The tags of a file, whose text is given, by the name that tags have for it; and for how
+        many letters the server wasn't asked, of those that aren't ASCII the rarest."""
+        counts = Counter(word[0] for word in TOKEN.findall(text))
+        letters = sorted(counts, key=lambda one: (not one.isascii(), -counts[one], one))
+        now = time.monotonic()
+        due = [one for one in letters if now - self.read_at.get(one, -SECONDS) >= SECONDS]
+        for letter in due[:MOST_LETTERS]:
+            self.read(letter)
+        found = [tag for one in letters for tag in self.tags.get(one, {}).get(file, [])]
+        return found[:MOST], len(due[MOST_LETTERS:])
 
     def read(self, letter: str) -> None:
         """Reads the tags whose names begin with a letter."""

@@ -110,7 +110,7 @@ def file_page(view: View, name: str, project: str, search: str) -> Iterator[str]
     """The page of a file or a folder, piece by piece: the text first, then what takes longer.
     Raises Refused before the first piece."""
     path = view.path(name)
-    with view.lock:
+    with view.answering():
         is_folder = os.path.isdir(path)
         text = "" if is_folder else view.text(path)
     lines = lines_in(text)

@@ -3,7 +3,7 @@ and those of the index lead to one another."""
 
 import os
 import threading
-from contextlib import suppress
+from contextlib import contextmanager, suppress
 from typing import Iterator, Optional
 
 from codenav.asking.project import Reply
@@ -11,7 +11,7 @@ from codenav.asking.workspace import Workspace
 from codenav.browse.folder import MOST_BYTES, Folder, Refused
 from codenav.faults import BadCall, NoReply
 from codenav.settings.found import Settings
-from codenav.texts.decoded import lines_in
+from codenav.texts.decoded import Text, Texts
 from codenav.texts.git import found_in, top_of
 from codenav.texts.moved.text_map import TextMap
 from codenav.texts.moved.tokens import tokens_of
@@ -33,7 +33,7 @@ class View:
         self.folder, self.settings, self.revision = folder, settings, revision
         self.checkout = Checkout(revision) if revision else None
         self.notes: list[str] = []
-        self.lock = threading.RLock()
+        self.lock, self.texts = threading.RLock(), Texts(self.read)
         self.workspace = Workspace(
             folder.given, settings, self.notes.append, self.today, is_by_name
         )
@@ -46,17 +46,28 @@ class View:
             for today in self.workspace.mapping.values():
                 today.end()
 
+    @contextmanager
+    def answering(self) -> Iterator[None]:
+        """Holds the lock for an answer, in which a file is read once."""
+        with self.lock:
+            self.texts.clear()
+            yield
+
     def text(self, path: str) -> str:
         """The text of a file, by its whole path; raises Refused."""
+        return self.texts.text(path)
+
+    def read(self, path: str) -> Text:
+        """Reads a file; raises Refused."""
         if self.checkout is None:
-            return self.folder.text(path)
+            return Text(self.folder.text(path))
         try:
             text = self.checkout.text(path)
         except BadCall as fault:
             raise Refused(404, str(fault), TODAY) from None
         if len(text) > MOST_BYTES:
             raise Refused(403, f"a file of over {MOST_BYTES} bytes")
-        return text
+        return Text(text)
 
     def today(self, path: str) -> str:
         """The text of a file, for maps. Raises BadCall where there is none."""
@@ -69,7 +80,7 @@ class View:
 
     def lines(self, path: str) -> list[str]:
         """The lines of a file."""
-        return lines_in(self.text(path))
+        return self.texts.of(path).lines
 
     def path(self, name: str) -> str:
         """The whole path of a file or folder; raises Refused. A file of a revision needs none of

@@ -3,7 +3,6 @@
 import argparse
 import json
 import os
-from functools import lru_cache
 from typing import Any, NamedTuple, Optional
 
 from codenav import printed
@@ -12,14 +11,14 @@ from codenav.asking.project import Project, Reply
 from codenav.asking.tags import Names, Tag
 from codenav.cli.asking import Asking, add_asking, add_by_name
 from codenav.cli.command import Command
-from codenav.cli.options import Help, add_server, first_place
+from codenav.cli.options import Help, add_server, first_place, named_all
 from codenav.cli.show import Shown
 from codenav.client.fetch import fetch_from
 from codenav.client.http import SECONDS
 from codenav.faults import NoReply
 from codenav.kinds import hover_text
-from codenav.settings.found import FILE, Settings, settings_by
-from codenav.texts.decoded import counts_bytes, lines_of
+from codenav.settings.found import FILE, Settings, servers_above, settings_by
+from codenav.texts.decoded import Texts
 from codenav.texts.places import Maps, Place, asked_path, character_at, path_of, place_line, uri_of
 from codenav.texts.today import NotThere, Today, is_whole_file, position_of
 
@@ -31,7 +30,6 @@ KINDS = {
     "hover": "what is said of it",
     "names": "the tags of a name, or those whose names begin with a text",
 }
-MOST_FILES = 8
 warn = Shown("codenav ask").warn
 
 
@@ -47,7 +45,7 @@ class AskCall(Asking):
     line = 0
     column = 0
     all_projects = False
-    servers: Optional[str] = None
+    servers = ""
     name = ""
     prefix: Optional[str] = None
 
@@ -59,9 +57,9 @@ class Answer(NamedTuple):
     lines: list[str]
 
 
-def project_of(settings: Settings) -> Project:
-    """The project of settings. Raises BadCall."""
-    today = Today(settings.sources(), settings.maps, warn)
+def project_of(settings: Settings, texts: Texts) -> Project:
+    """The project of settings, whose files are read by `texts`. Raises BadCall."""
+    today = Today(settings.sources(), settings.maps, warn, texts.text)
     fetch, folder = fetch_from(settings.server, SECONDS), settings.tags_folder(settings.project)
     return Project(settings.project, fetch, today, folder)
 
@@ -71,9 +69,11 @@ def tags_of(call: AskCall, settings: Settings, project: Project) -> list[Tag]:
     parameters = {"name": call.name} if call.prefix is None else {"prefix": call.prefix}
     if call.all_projects:
         # here, since few calls need it
-        from codenav.asking.all_servers import names_of_all, servers_given
+        from codenav.asking.all_servers import names_of_all
+        from codenav.sets.ring import servers_of
 
-        if servers := servers_given(call.servers, os.curdir):
+        given = named_all(call.servers) if call.servers else servers_above(os.curdir)
+        if servers := servers_of(given) if given else []:
             return names_of_all(
                 servers, settings.project, parameters, lambda url: fetch_from(url, SECONDS)
             )
@@ -86,15 +86,10 @@ def tags_of(call: AskCall, settings: Settings, project: Project) -> list[Tag]:
     return tags
 
 
-def place_lines(places: list[Place], utf16: bool) -> list[str]:
-    """What is printed of places; the files that were read last are kept."""
-    read = lru_cache(MOST_FILES)(lines_of)
-    return [place_line(place, utf16, read) for place in places]
-
-
 def answer_names(call: AskCall, settings: Settings) -> Answer:
     """The names that a call asks for. Raises NoReply."""
-    project, names = project_of(settings), Names()
+    texts, names = Texts(), Names()
+    project = project_of(settings, texts)
     try:
         tags = tags_of(call, settings, project)
         named = list(
@@ -104,19 +99,19 @@ def answer_names(call: AskCall, settings: Settings) -> Answer:
         project.today.end()
     if said := names.said():
         warn(said)
-    lines = place_lines([place for _, place in named], call.utf16)
+    lines = [place_line(place, call.utf16, texts.of) for _, place in named]
     return Answer(
         {"tags": [{**tag, **found_at(tag, place, settings.maps)} for tag, place in named]},
         [f"{line}: {tag['name']}" for (tag, _), line in zip(named, lines)],
     )
 
 
-def reply_at(call: AskCall, settings: Settings) -> Reply:
+def reply_at(call: AskCall, settings: Settings, texts: Texts) -> Reply:
     """What is found at the place that a call names; empty, with a line, where the place is new.
     Raises NoReply."""
-    project = project_of(settings)
-    character = character_at(call.file, call.line, call.column, call.utf16)
-    if counts_bytes(call.file, call.line):
+    project, asked = project_of(settings, texts), texts.of(call.file)
+    character = character_at(call.file, asked.lines, call.line, call.column, call.utf16)
+    if call.line - 1 in asked.others:
         warn(f"{call.file}:{call.line} isn't UTF-8: its columns count bytes")
     more = {"declaration": "no"} if call.no_declaration else {}
     at = Place(asked_path(call.file, settings.maps), call.line - 1, character)
@@ -142,15 +137,17 @@ def shown(place: dict[str, Any], maps: Maps) -> dict[str, Any]:
 
 def answer_at(call: AskCall, settings: Settings) -> Answer:
     """What is found at a place, of which a place of several projects is one line."""
-    found = reply_at(call, settings).found
+    texts = Texts()
+    found = reply_at(call, settings, texts).found
     if call.what == "hover":
         return Answer({"contents": found}, [] if found is None else [hover_text(found)])
-    if call.what != "references" and len(found) == 1 and is_whole_file(found[0], call.file):
+    is_one = call.what != "references" and len(found) == 1
+    if is_one and is_whole_file(found[0], call.file, texts.of(call.file).lines):
         warn(f"nothing but a range over all of {call.file} covers this place")
     places = [Place(one["path"] or one["uri"], *position_of(one["start"])) for one in found]
     return Answer(
         {"places": [shown(one, settings.maps) for one in found]},
-        list(dict.fromkeys(place_lines(places, call.utf16))),
+        list(dict.fromkeys(place_line(place, call.utf16, texts.of) for place in places)),
     )
 
 

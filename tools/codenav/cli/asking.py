@@ -5,7 +5,8 @@ import argparse
 from typing import Optional
 
 from codenav.asking.tags import folders_of
-from codenav.settings.found import Settings, given_server
+from codenav.names import server_of
+from codenav.settings.found import Settings
 from codenav.texts.places import maps_of
 
 
@@ -23,7 +24,7 @@ class Asking:
         """What the call says, of files in a folder; server and project may be empty. Raises
         BadCall."""
         return Settings(
-            url and given_server(url),
+            url and server_of(url),
             project,
             folder,
             maps_of(self.map),

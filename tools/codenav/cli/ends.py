@@ -26,10 +26,21 @@ def raise_signal(number: int, _: object) -> NoReturn:
     raise Signalled(number)
 
 
+def drop_output() -> None:
+    """Has what couldn't be printed go nowhere, so that its fault isn't met again."""
+    os.dup2(os.open(os.devnull, os.O_WRONLY), sys.stdout.fileno())
+
+
 def text_of(fault: OSError) -> str:
     """What a fault of the system is said by."""
+    name = fault.filename
+    try:
+        sys.stdout.flush()
+    except OSError:
+        name = name or STANDARD_OUTPUT
+        drop_output()
     text = fault.strerror or str(fault)
-    return f"{fault.filename}: {text}" if fault.filename else text
+    return f"{name}: {text}" if name else text
 
 
 def status_of(tool: str, call: Callable[[], int]) -> int:
@@ -43,7 +54,7 @@ def status_of(tool: str, call: Callable[[], int]) -> int:
             sys.stdout.flush()
         return status
     except BrokenPipeError:
-        os.dup2(os.open(os.devnull, os.O_WRONLY), sys.stdout.fileno())
+        drop_output()
         return CLOSED_PIPE
     except (KeyboardInterrupt, Signalled) as end:
         number = end.number if isinstance(end, Signalled) else signal.SIGINT

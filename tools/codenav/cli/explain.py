@@ -14,6 +14,7 @@ from codenav.faults import BadCall
 from codenav.kinds import BY_NAME
 from codenav.printed import line, lines
 from codenav.sets.files import part_file
+from codenav.texts.decoded import lines_of
 from codenav.texts.places import character_at, maps_of
 
 MOST_BYTES = 1000
@@ -71,7 +72,9 @@ class WhyCall:
             raise BadCall(f"lines and columns count from 1, not {min(self.line, self.column)}")
         if self.utf16 or not os.path.isfile(self.file):
             return self.line - 1, self.column - 1
-        return self.line - 1, character_at(self.file, self.line, self.column, False)
+        return self.line - 1, character_at(
+            self.file, lines_of(self.file), self.line, self.column, False
+        )
 
 
 def add_why(parser: argparse.ArgumentParser) -> None:

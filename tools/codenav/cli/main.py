@@ -9,7 +9,6 @@ from typing import TYPE_CHECKING, Any, NamedTuple, NoReturn, Optional, cast
 
 from codenav import VERSION
 from codenav.cli.ends import raise_signal, status_of
-from codenav.faults import BadCall
 
 if TYPE_CHECKING:
     from codenav.cli.command import Command
@@ -22,7 +21,6 @@ class Tool(NamedTuple):
     text: str
 
 
-PACKAGES = {"google": "python3-protobuf"}
 TOOLS = {
     "publish": Tool("publish", "from a checkout to answers: index, prepare, check, upload"),
     "prepare": Tool("prepare", "make a dump that the server takes of an indexer's"),
@@ -76,14 +74,8 @@ def version() -> str:
 
 
 def command_of(name: str) -> "Command[Any]":
-    """A tool. Raises BadCall where it needs a package that isn't installed."""
-    try:
-        module = importlib.import_module(f"codenav.cli.{TOOLS[name].module}")
-    except ModuleNotFoundError as fault:
-        package = PACKAGES.get((fault.name or "").partition(".")[0])
-        if package is None:
-            raise
-        raise BadCall(f"it needs Debian's {package}, which isn't installed") from None
+    """A tool."""
+    module = importlib.import_module(f"codenav.cli.{TOOLS[name].module}")
     return cast("Command[Any]", getattr(module, name.upper().replace("-", "_")))
 
 

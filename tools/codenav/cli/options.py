@@ -2,10 +2,8 @@
 
 import argparse
 import os
-import sys
-from typing import Optional
 
-from codenav.names import PROJECT
+from codenav.client.login import named
 
 
 class Help(argparse.HelpFormatter):
@@ -44,7 +42,12 @@ def url_in(words: list[str], most: int = 2) -> tuple[str, list[str]]:
     """The address of a server that words begin with, or nothing, and the words behind it, of which
     there are so many at most."""
     has_url = bool(words) and ("://" in words[0] or len(words) > most)
-    return (words[0], words[1:]) if has_url else ("", words)
+    return (named(words[0]), words[1:]) if has_url else ("", words)
+
+
+def named_all(text: str) -> list[str]:
+    """The addresses of servers that an option has, separated by commas."""
+    return [named(url) for url in text.split(",")]
 
 
 def add_server(parser: argparse.ArgumentParser, is_optional: bool = False) -> None:
@@ -52,6 +55,7 @@ def add_server(parser: argparse.ArgumentParser, is_optional: bool = False) -> No
     parser.add_argument(
         "url",
         metavar="URL",
+        type=named,
         nargs="?" if is_optional else None,  # type: ignore[arg-type]
         help=URL_HELP,
     )
@@ -83,13 +87,8 @@ def first_place(parser: argparse.ArgumentParser, words: list[str]) -> int:
 
 def with_server(parser: argparse.ArgumentParser, words: list[str]) -> list[str]:
     """The words of a call whose first word is the address of a server: that of CODENAV_URL where a
-    project's name, or nothing, stands in its place."""
+    name, which has neither `:` nor `/`, or nothing stands in its place."""
     url, at = os.environ.get("CODENAV_URL"), first_place(parser, words)
-    if url and (at == len(words) or PROJECT.fullmatch(words[at])):
+    if url and (at == len(words) or words[at] and not {*":/"} & {*words[at]}):
         return [*words[:at], url, *words[at:]]
     return words
-
-
-def parsed(parser: argparse.ArgumentParser, words: Optional[list[str]]) -> argparse.Namespace:
-    """What a command line says, of which the first word is the address of a server."""
-    return parser.parse_args(with_server(parser, sys.argv[1:] if words is None else words))

@@ -6,8 +6,14 @@ from dataclasses import dataclass
 
 from codenav.cli.command import Command
 from codenav.cli.options import add_retry, add_server
+from codenav.client.http import address, found_in, request_again
 from codenav.client.projects import listed, removed
-from codenav.names import project_of, server_of
+from codenav.names import SET, server_of, stored_name
+from codenav.sets.listed import by_names
+from codenav.sets.manifest import ABOUT, PARTS
+from codenav.sets.publish.publish import remove_set
+from codenav.sets.publish.store import Store
+from codenav.settings.found import name_of
 
 
 @dataclass(slots=True)
@@ -29,9 +35,8 @@ def list_projects(call: ListCall) -> int:
     projects = listed(server_of(call.url))
     if call.json:
         print(json.dumps({"projects": projects}, separators=(",", ":")))
-    for project in () if call.json else projects:
-        parts = [part for part in ("dump", "tags") if project.get(part)]
-        print(f"{project['name']}: {' and '.join(parts)}")
+    for name, what in () if call.json else by_names(projects):
+        print(f"{name}: {what}")
     return 0
 
 
@@ -50,22 +55,37 @@ def add_remove(parser: argparse.ArgumentParser) -> None:
     add_retry(parser)
     parser.add_argument("--json", action="store_true", help="print the reply as the server has it")
     add_server(parser)
-    parser.add_argument("project", metavar="PROJECT")
+    parser.add_argument("project", metavar="PROJECT", help="a project or a set, as `list` names it")
+
+
+def removed_set(server: str, name: str, retry: bool) -> int:
+    """Removes a set, and answers how many parts it had; none where there is no set of the name."""
+    if not SET.fullmatch(name):
+        return 0
+    asked = address(server, "/names", {"name": f"{ABOUT}set", "project": name + PARTS})
+    is_there = found_in(request_again(asked, "GET", retry=retry), "tags")
+    return remove_set(Store(server, retry), name) if is_there else 0
 
 
 def remove(call: RemoveCall) -> int:
-    """Removes a project, and says whether there was something to remove."""
-    was_there = removed(server_of(call.url), project_of(call.project), call.retry)
+    """Removes what has a name, a project or a set, and says whether there was something."""
+    server, shown = server_of(call.url), name_of(call.project)
+    name = stored_name(shown)
+    was_project = removed(server, name, call.retry)
+    parts = removed_set(server, name, call.retry)
+    was_there = was_project or parts > 0
     if call.json:
         print(json.dumps({"removed": was_there}, separators=(",", ":")))
     else:
-        print(f"{call.project}: {'removed' if was_there else 'has neither a dump nor tags'}")
+        more = f", parts {parts}" if parts else ""
+        print(f"{shown}: {f'removed{more}' if was_there else 'has neither a dump nor tags'}")
     return 0 if was_there else 1
 
 
 LIST = Command(
     "list",
-    "Lists the projects of a server, and what each has: a dump, tags, or both.",
+    "Lists the projects of a server, and what each has: a dump, tags, or both. A set is one, with "
+    "how many parts of it are there.",
     ListCall,
     add_list,
     list_projects,
@@ -73,7 +93,7 @@ LIST = Command(
 )
 REMOVE = Command(
     "remove",
-    "Removes a project: its dump and its tags. Each call has a key of its own, which all its "
+    "Removes a project, its dump and its tags, or a set with all its parts. Each call has a key of its own, which all its "
     "retries share, so it acts once.",
     RemoveCall,
     add_remove,

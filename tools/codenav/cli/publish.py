@@ -11,7 +11,7 @@ from dataclasses import dataclass
 from typing import Any, Iterator, Optional, Sequence
 
 from codenav.cli.command import Command
-from codenav.cli.options import URL_HELP, add_words, url_in
+from codenav.cli.options import URL_HELP, add_words, named_all, url_in
 from codenav.cli.show import Shown
 from codenav.files import whole_file
 from codenav.index.indexers import INDEXERS
@@ -104,7 +104,7 @@ def servers_in(given: str, folder: str) -> tuple[str, ...]:
     where it goes to one."""
     path = os.path.join(folder, FILE)
     if given:
-        return tuple(servers_of(given.split(",")))
+        return tuple(servers_of(named_all(given)))
     found = found_in_file(path).get("servers", []) if os.path.isfile(path) else []
     return tuple(servers_of(found)) if found else ()
 

@@ -7,7 +7,7 @@ from dataclasses import dataclass
 from typing import Sequence
 
 from codenav.cli.command import Command
-from codenav.cli.options import URL_HELP, add_words, url_in
+from codenav.cli.options import URL_HELP, add_words, named_all, url_in
 from codenav.cli.publish import servers_in
 from codenav.cli.show import Shown
 from codenav.faults import BadCall, NoReply
@@ -65,7 +65,7 @@ def lists_of(call: RebalanceCall, url: str) -> Lists:
         raise BadCall("it takes --servers, or `servers` in the settings")
     if named_in_front(front) in map(named_in_front, servers):
         raise BadCall(f"it asks the front which servers it asks: {front} is one of these")
-    before = servers_of(call.servers_before.split(",")) if call.servers_before else []
+    before = servers_of(named_all(call.servers_before)) if call.servers_before else []
     return Lists(front, servers, tuple(before), call.servers_that_join)
 
 

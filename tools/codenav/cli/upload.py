@@ -8,7 +8,7 @@ from dataclasses import dataclass
 from typing import IO, Optional, Sequence
 
 from codenav.cli.command import Command
-from codenav.cli.options import URL_HELP, add_retry, add_words
+from codenav.cli.options import URL_HELP, add_retry, add_words, url_in
 from codenav.client.http import refusal_of, reply_in
 from codenav.client.projects import fresh_key, once_key
 from codenav.dumps.dump import HEAD_BYTES, is_index, profile_in
@@ -145,11 +145,10 @@ def upload_set(call: UploadCall, server: str, folder: str) -> int:
 def run_upload(call: UploadCall) -> int:
     """Uploads what the words of a call name."""
     known = os.environ.get("CODENAV_URL", "")
-    is_named = bool(call.words) and ("://" in call.words[0] or not known)
-    url, *rest = call.words if is_named else (known, *call.words)
+    url, rest = url_in([*call.words], len(call.words) if known else 0)
     if not rest:
         raise BadCall(f"it takes {FORM.replace(' | ', ' or ')}")
-    server = server_of(url)
+    server = server_of(url or known)
     if len(rest) == 1:
         return upload_set(call, server, rest[0])
     return upload_files(call, server, rest[0], rest[1:])

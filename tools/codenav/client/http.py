@@ -14,7 +14,7 @@ from http.client import HTTPConnection, HTTPException, HTTPResponse, HTTPSConnec
 from typing import IO, Any, Callable, Iterator, NamedTuple, Optional
 from urllib.parse import SplitResult, unquote, urlencode, urlsplit
 
-from codenav.client.login import basic, is_by_file_alone, login_of, place_of
+from codenav.client.login import basic, is_kept_back, login_of, place_of
 from codenav.faults import BadCall, NoReply
 from codenav.names import server_of
 
@@ -244,8 +244,8 @@ def refusal_of(answer: Answer) -> str:
         return f"{text}, which leads to {answer.leads_to}"
     if answer.status == 401 and answer.has_login:
         return f"{text}, the login that was sent isn't taken"
-    if answer.status == 401 and is_by_file_alone(answer.server):
-        return f"{text}, a login is asked for: that of the environment goes to a server that CODENAV_URL or the call names"
+    if answer.status == 401 and is_kept_back(answer.server):
+        return f"{text}, a login is asked for: that of the environment goes to the server of CODENAV_URL or else of the call"
     return f"{text}, {MEANINGS[answer.status]}" if answer.status in MEANINGS else text
 
 

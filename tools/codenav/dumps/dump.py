@@ -2,6 +2,7 @@
 
 from __future__ import annotations
 
+import sys
 import tempfile
 from contextlib import contextmanager
 from typing import IO, TYPE_CHECKING, BinaryIO, Iterator, Union, cast
@@ -36,7 +37,9 @@ def index_in(file: BinaryIO, name: str) -> IndexFile:
     except ModuleNotFoundError as fault:
         if (fault.name or "").partition(".")[0] != "google":
             raise
-        raise BadCall("it needs Debian's package python3-protobuf") from None
+        raise BadCall(
+            f"it needs Debian's python3-protobuf, which {sys.executable} hasn't"
+        ) from None
     return IndexFile(file, name)
 
 

@@ -2,6 +2,7 @@
 
 import os
 import shutil
+import sys
 import tempfile
 import zlib
 from contextlib import contextmanager
@@ -47,7 +48,8 @@ def unzstd(chunks: Chunks) -> Chunks:
     try:
         import zstandard
     except ImportError:
-        raise ValueError("packed by zstd, which needs Debian's python3-zstandard") from None
+        needed = f"Debian's python3-zstandard, which {sys.executable} hasn't"
+        raise ValueError(f"packed by zstd, which needs {needed}") from None
     unpacker = zstandard.ZstdDecompressor().decompressobj()
     for chunk in chunks:
         for at in range(0, len(chunk), ZSTD_PIECE):

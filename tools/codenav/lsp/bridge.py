@@ -23,7 +23,7 @@ from codenav.lsp.jsonrpc import (
 from codenav.lsp.open_documents import OpenDocuments, document_name
 from codenav.lsp.symbols import symbol
 from codenav.settings.found import Settings
-from codenav.texts.decoded import body_of, is_read_as, text_of
+from codenav.texts.decoded import Texts, body_of, is_read_as
 from codenav.texts.places import Place, link_map, path_of
 from codenav.texts.today import NotThere
 
@@ -57,7 +57,7 @@ class Bridge:
         self.log = log
         self.workspace: Optional[Workspace] = None
         self.is_shut = False
-        self.open = OpenDocuments()
+        self.open, self.texts = OpenDocuments(), Texts()
         self.edited: set[str] = set()
         self.refusal: Optional[str] = None
         self.noted = {""}
@@ -80,6 +80,7 @@ class Bridge:
         """Takes a request, a notification or a response. Notifications that aren't known, and bad
         ones, have no effect."""
         method, params = message.get("method"), message.get("params")
+        self.texts.clear()
         try:
             if "method" in message and "id" in message:
                 self.send({"id": message["id"], "result": self.answer(str(method), params)})
@@ -157,7 +158,7 @@ class Bridge:
     def today(self, path: str) -> str:
         """The text of a file as the editor has it. Raises BadCall where it can't be read."""
         document = self.open.find(path)
-        return text_of(path) if document is None else document.text
+        return self.texts.text(path) if document is None else document.text
 
     def warn(self, text: str) -> None:
         """Writes a line to the editor's log."""

@@ -4,7 +4,7 @@ from dataclasses import dataclass
 
 from codenav.client.http import address, found_in, request_again
 from codenav.faults import BadCall
-from codenav.names import project_of, server_of, set_name
+from codenav.names import project_of, server_of, set_name, stored_name
 from codenav.sets.ring import home_of, named_in_front
 from codenav.sets.surface.made import surface_name
 
@@ -37,9 +37,12 @@ class Target:
         return self.server if is_front else ""
 
     def reach(self) -> None:
-        """Asks each server for its projects. Raises NoReply where one doesn't answer."""
+        """Asks each server for a name, whose answer is short. Raises NoReply where one doesn't
+        answer."""
+        own = stored_name(self.project)
+        asked = {"name": own, "project": own}
         for server in self.servers or (self.server,):
-            found_in(request_again(address(server, "/projects", {}), "GET"), "projects")
+            found_in(request_again(address(server, "/names", asked), "GET"), "tags")
 
 
 def target_at(

@@ -9,7 +9,7 @@ from urllib.parse import urlsplit
 from codenav.client.login import place_of
 from codenav.faults import BadCall
 from codenav.names import server_of
-from codenav.settings.found import FILE, found_in_file, given_server
+from codenav.settings.found import FILE, found_in_file
 
 
 def target_of(url: str, words: list[str]) -> tuple[str, str, str]:
@@ -24,8 +24,6 @@ def target_of(url: str, words: list[str]) -> tuple[str, str, str]:
         raise BadCall(f"{folder}: not a folder")
     path = os.path.join(folder, FILE)
     found = found_in_file(path) if os.path.isfile(path) else {}
-    if url:
-        given_server(url)
     own, known = found.get("server", ""), os.environ.get("CODENAV_URL", "")
     server = url or (known or own if project else own or known)
     project = project or str(found.get("project", found.get("set", "")))

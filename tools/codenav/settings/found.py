@@ -3,11 +3,12 @@ line."""
 
 import os
 from typing import Any, Iterator, NamedTuple, Optional
+from urllib.parse import urlsplit
 
 from codenav.addresses import folder_address
-from codenav.client.login import named_by_call, named_by_file
+from codenav.client.login import origin
 from codenav.faults import BadCall
-from codenav.names import project_of, server_of, set_name
+from codenav.names import project_of, server_of, stored_name
 from codenav.texts.decoded import body_of
 from codenav.texts.places import Maps, link_map
 from codenav.texts.sources import Source, sources_of
@@ -32,13 +33,8 @@ MOST_BYTES, MOST_DOTS = 65_536, 200
 
 def name_of(text: str) -> str:
     """The text, where it's the name of a project, or of a set as `NAME@BRANCH`. Raises BadCall."""
-    set_name(text) if "@" in text else project_of(text)
+    stored_name(text)
     return text
-
-
-def given_server(url: str) -> str:
-    """The address of a server that a command line names. Raises BadCall."""
-    return named_by_call(server_of(url))
 
 
 class Settings(NamedTuple):
@@ -92,7 +88,8 @@ def found_in_file(path: str) -> dict[str, Any]:
             )
     for key in ("server", "servers"):
         try:
-            named_by_file([server_of(text.strip()) for text in texts_in(found.get(key, []))])
+            for text in texts_in(found.get(key, [])):
+                server_of(text.strip())
         except BadCall as fault:
             raise BadCall(f"{path}: {key}: {fault}") from None
     return found
@@ -171,24 +168,43 @@ def servers_above(folder: str) -> list[str]:
     return list(found_in_file(path).get("servers", [])) if path else []
 
 
+def said_besides(path: Optional[str], given: Settings) -> Optional[Settings]:
+    """What a file of settings says, where it's of the project of a call, and of no other server."""
+    try:
+        found = found_in_file(path) if path else {}
+        server = server_of(found.get("server", given.server))
+        is_there = origin(urlsplit(server)) == origin(urlsplit(given.server))
+        is_own = is_there and given.project in (found.get("project"), found.get("set"))
+        folder = os.path.dirname(path or "")
+        return settings_of({**found, "server": given.server}, folder) if is_own else None
+    except BadCall:
+        return None
+
+
 def settings_by(given: Settings, folder: str) -> Settings:
-    """What a command line says, whose server and project may be empty. Without a project it's that
-    of the nearest `.codenav.toml` of a folder and those above it, with what the file says of it
-    besides; without a server it's that of CODENAV_URL or of the file. Raises BadCall."""
+    """What a command line says, whose server and project may be empty, and what the nearest
+    `.codenav.toml` of a folder and those above it says besides, where it's of the same project.
+    Without a project it's the file's; without a server it's that of CODENAV_URL or of the file.
+    Raises BadCall."""
     path = nearest(folder)
+    own: Optional[Settings]
     if given.project:
         server = given.server or os.environ.get("CODENAV_URL")
         if not server and path:
             server = found_in_file(path).get("server")
         if not server:
             raise BadCall(f"no server: neither CODENAV_URL nor a {FILE} above {folder} has one")
-        return given._replace(server=server_of(server), project=name_of(given.project))
-    if not path:
+        given = given._replace(server=server_of(server), project=name_of(given.project))
+        own = said_besides(path, given)
+    elif path:
+        own = settings_in(path)
+    else:
         raise BadCall(f"no project, and no {FILE} above {folder} says one")
-    own = settings_in(path)
+    if own is None:
+        return given
     is_said = any("=" not in one for one in given.revisions)
     return Settings(
-        server_of(given.server) if given.server else own.server,
+        given.server or own.server,
         own.project,
         own.folder,
         [*given.maps, *own.maps],

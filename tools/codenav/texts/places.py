@@ -1,13 +1,14 @@
 """Documents and the files that they are, and columns in characters and in UTF-16 code units."""
 
 import os
-from typing import Any, Callable, NamedTuple, Optional
+from contextlib import suppress
+from typing import Any, Callable, NamedTuple, Optional, Sequence
 from urllib.parse import quote, unquote_to_bytes
 
 from codenav.addresses import KEPT as KEPT
 from codenav.addresses import below, folder_address, spelled
 from codenav.faults import BadCall
-from codenav.texts.decoded import lines_of as lines_of
+from codenav.texts.decoded import Text, read_text
 
 Maps = list[tuple[str, str]]
 
@@ -17,20 +18,9 @@ def units(text: str) -> int:
     return len(text.encode("utf-16-le", "surrogatepass")) // 2
 
 
-def characters(text: str, count: int) -> int:
-    """How many whole characters the first `count` UTF-16 code units of a line have; beyond its end
-    units count as such."""
-    for index, character in enumerate(text):
-        if count <= 0:
-            return index
-        count -= units(character)
-    return len(text) + max(count, 0)
-
-
-def character_at(path: str, line: int, column: int, utf16: bool) -> int:
+def character_at(path: str, lines: Sequence[str], line: int, column: int, utf16: bool) -> int:
     """The UTF-16 code units before a column of a file's line, both from 1; with `utf16` the column
     counts such."""
-    lines = lines_of(path)
     text = lines[line - 1] if 1 <= line <= len(lines) else None
     if text is None or not 1 <= column <= (units(text) if utf16 else len(text)) + 1:
         raise BadCall(f"{path} has no line {line} with a column {column}")
@@ -152,14 +142,12 @@ def place_of(found: dict[str, Any], maps: Maps) -> Place:
     )
 
 
-def place_line(place: Place, utf16: bool, read: Callable[[str], list[str]] = lines_of) -> str:
+def place_line(place: Place, utf16: bool, read: Callable[[str], Text] = read_text) -> str:
     """`path:line:column` of a place, from 1; with `utf16`, or where its file can't be read, in
-    UTF-16 code units, else in characters. `read` reads the lines of a file."""
+    UTF-16 code units, else in characters. `read` reads a file."""
     column = place.character
     if not utf16:
-        try:
-            column = characters(read(place.name)[place.line], column)
-        except (OSError, BadCall, IndexError):
-            pass
+        with suppress(OSError, BadCall, IndexError):
+            column = read(place.name).characters(place.line, column)
     name = shown(place.name) if os.path.isabs(place.name) else place.name
     return f"{name}:{place.line + 1}:{column + 1}"

@@ -125,6 +125,7 @@ class Revision:
         self.old_names: dict[str, str] = {}
         self.new_names: dict[str, str] = {}
         self.listed = -FRESH
+        self.read: dict[str, tuple[float, str]] = {}
 
     def end(self) -> None:
         """Ends the processes."""
@@ -157,10 +158,18 @@ class Revision:
         return words[0].decode() if words[1:2] == [b"blob"] else ""
 
     def text(self, name: str) -> str:
-        """The text of a file of the revision, as a checkout writes it. Raises BadCall where there
-        is none."""
-        blob = self.blob(name)
-        found = self.blobs.asked(f"{blob} {name}") if blob else b""
+        """The text of a file of the revision, as a checkout writes it, which stands for some
+        seconds. Raises BadCall where there is none."""
+        blob, now = self.blob(name), time.monotonic()
+        self.read = {one: own for one, own in self.read.items() if now - own[0] < FRESH}
+        asked = f"{blob} {name}"
+        if asked not in self.read:
+            self.read[asked] = now, self.filtered(asked if blob else "", name)
+        return self.read[asked][1]
+
+    def filtered(self, asked: str, name: str) -> str:
+        """What git prints of a blob of that name. Raises BadCall where there is none."""
+        found = self.blobs.asked(asked) if asked else b""
         _, mark, body = found.partition(b"\n")
         if not mark:
             is_gone = self.names.asked(self.commit).endswith(b" missing\n")

@@ -7,11 +7,11 @@ forward. What isn't there is said, and never answered by what stands nearest.
 from __future__ import annotations
 
 import os
-from typing import TYPE_CHECKING, Any, Callable, NamedTuple, Optional
+from typing import TYPE_CHECKING, Any, Callable, NamedTuple, Optional, Sequence
 
 from codenav.addresses import spelled
 from codenav.faults import BadCall
-from codenav.texts.decoded import lines_of, text_of
+from codenav.texts.decoded import text_of
 from codenav.texts.places import Maps, Place, path_of, shown, units, uri_of
 from codenav.texts.sources import Source
 
@@ -77,9 +77,8 @@ def position_of(found: dict[str, int]) -> Position:
     return found["line"], found["character"]
 
 
-def is_whole_file(place: dict[str, Any], file: str) -> bool:
-    """Whether a place is all of the file."""
-    lines = lines_of(file)
+def is_whole_file(place: dict[str, Any], file: str, lines: Sequence[str]) -> bool:
+    """Whether a place is all of a file of these lines."""
     last = max((number for number, line in enumerate(lines) if line), default=0)
     return (
         os.path.realpath(place["path"] or "") == os.path.realpath(file)

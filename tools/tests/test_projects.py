@@ -1,0 +1,111 @@
+"""Tests of `list` and `remove`, of projects and of sets by their names, and of the words that name
+them where the server is that of CODENAV_URL."""
+
+import json
+import os
+import tempfile
+from typing import Any
+from unittest import mock
+
+from codenav.cli.ask import ASK
+from codenav.cli.lsp import LSP
+from codenav.cli.projects import LIST, REMOVE
+from codenav.client.projects import listed
+from codenav.sets.listed import by_names
+from codenav.sets.publish.publish import Publish
+from codenav.sets.publish.store import Store
+from tests.servers import OnServer
+from tests.test_kept_revision import quietly
+from tests.test_set_service import revision, split_into
+
+DIGITS = "0123456789abcdef"
+TAGS = b'run\ta.c\t1;"\tf\n'
+ROWS: list[tuple[str, list[str]]] = [
+    # projects, `+` with dumps and tags, `-` with tags alone, and what is listed
+    ("", []),
+    ("a+ b-", ["a: dump and tags", "b: tags"]),
+    (f"a-claim- a-{DIGITS}+ a-parts-", ["a: a set, parts 1"]),
+    (f"a+ a-claim- a-{DIGITS}+ a-parts-", ["a: a set, parts 1", "a: dump and tags"]),
+    (f"a-{DIGITS}+ a-{DIGITS[::-1]}- a-parts-", ["a: a set, parts 2"]),
+    (f"a--b-{DIGITS}+ a--b-parts- a-parts+", ["a-parts: dump and tags", "a@b: a set, parts 1"]),
+    (f"a-{DIGITS}+", [f"a-{DIGITS}: dump and tags"]),
+    ("car-parts- car+", ["car: dump and tags", "car-parts: tags"]),
+    (f"a-surface-{DIGITS}+", ["a: the surface of a set elsewhere, parts 1"]),
+]
+
+
+class Lists(OnServer):
+    def test_sets_are_listed_as_one(self) -> None:
+        for names, wanted in ROWS:
+            projects = [
+                {"name": name[:-1], "dump": name[-1] == "+", "tags": True}
+                for name in sorted(names.split())
+            ]
+            with self.subTest(names):
+                found = [f"{name}: {what}" for name, what in by_names(projects)]
+                self.assertEqual(found, wanted)
+
+    def put(self, name: str) -> None:
+        """Publishes a set of that name."""
+        with tempfile.TemporaryDirectory() as above:
+            folder = os.path.join(above, "set")
+            split_into(folder, revision(0), name)
+            Publish(Store(self.url), folder).run()
+
+    def names(self) -> list[str]:
+        """The projects of the server."""
+        return [one["name"] for one in listed(self.url)]
+
+    def test_sets_are_removed_by_their_names(self) -> None:
+        """With all that they have on the server, and nothing of another."""
+        for name in "code", "code@next":
+            self.put(name.replace("@", "--"))
+        store = Store(self.url)
+        for name in "app", "code-review", "car", "car-parts", "n" * 64:
+            store.put(name, "tags", TAGS, f"k{name[:9]}")
+        status, said, _ = quietly(LIST.main, self.url)
+        lines = said.splitlines()
+        self.assertEqual(
+            (status, [one.split(":")[0] for one in lines]),
+            (0, sorted(["app", "car", "car-parts", "code", "code@next", "code-review", "n" * 64])),
+        )
+        parts = [one for one in self.names() if one.startswith("code--next-")]
+        rows: list[tuple[str, int, str, int]] = [
+            ("code@next", 0, f"code@next: removed, parts {len(parts) - 2}\n", len(parts)),
+            ("code@next", 1, "code@next: has neither a dump nor tags\n", 0),
+            ("car", 0, "car: removed\n", 1),
+            ("n" * 64, 0, f"{'n' * 64}: removed\n", 1),
+        ]
+        for name, wanted, text, count in rows:
+            with self.subTest(name):
+                before = self.names()
+                self.assertEqual(quietly(REMOVE.main, self.url, name), (wanted, text, ""))
+                self.assertEqual(len(before) - len(self.names()), count)
+        status, said, _ = quietly(REMOVE.main, "--json", self.url, "code")
+        self.assertEqual((status, json.loads(said)), (0, {"removed": True}))
+        self.assertEqual(self.names(), ["app", "car-parts", "code-review"])
+
+    def test_words_without_a_server(self) -> None:
+        """What has neither `:` nor `/` is a name, and is refused as such."""
+        here = os.path.realpath(self.enterContext(tempfile.TemporaryDirectory()))
+        self.put("app--dev")
+        capital = "a project is 1 to 64 characters of a-z 0-9 _ -, not 'App'"
+        address = "not the address of a server, as http://127.0.0.1:8080: "
+        rows: list[tuple[Any, list[str], str]] = [
+            (ASK, ["app@dev", "names", "none"], ""),
+            (ASK, ["App", "names", "none"], capital),
+            (ASK, ["my.app", "names", "none"], capital.replace("App", "my.app")),
+            (ASK, ["h:8080", "app", "names", "none"], address + "'h:8080'"),
+            (LSP, ["App"], capital),
+            (REMOVE, ["App"], capital),
+            (REMOVE, ["h:8080", "app"], address + "'h:8080'"),
+            (REMOVE, ["app@dev"], ""),
+        ]
+        for tool, words, fault in rows:
+            with self.subTest(words=[tool.word, *words]), mock.patch.dict(
+                os.environ, {"CODENAV_URL": self.url}
+            ), mock.patch("os.getcwd", lambda: here):
+                status, _, said = quietly(tool.main, *words)
+                wanted = f"codenav {tool.word}: {fault}\n" if fault else ""
+                self.assertEqual((status == 2, said), (bool(fault), wanted))
+        self.assertEqual(self.names(), [])
