@@ -387,7 +387,7 @@ class Lua(OfFront.Tests):
         self.until(lambda: any(line["method"] == "PUT" for line in self.logged(front)))
         line = self.logged(front)[-1]
         self.assertEqual((line["user"], line["status"], line["fault"]), ("ci", 422, "L02"))
-        self.assertGreater(float(str(line["server_seconds"])), 0)
+        self.assertRegex(str(line["server_seconds"]), r"^\d+\.\d{3}$")
 
     def logged(self, front: Front) -> list[dict[str, object]]:
         """The lines of the front's log."""
