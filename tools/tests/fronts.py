@@ -239,11 +239,10 @@ def fronted(
     if kind == "haproxy":
         front.more_queues = [free_port() for _ in servers[1:-1]]
     write_files(front, servers, limits)
-    with open(f"{folder}/codenav/rights", "r+", encoding="utf-8") as file:
-        changed = rights(file.read())
-        file.seek(0)
-        file.truncate()
-        file.write(changed)
+    with open(f"{folder}/codenav/rights", encoding="utf-8") as file:
+        text = rights(file.read())
+    with open(f"{folder}/codenav/rights", "w", encoding="utf-8") as out:
+        out.write(text)
     nginx = [str(found_program("nginx")), "-e", f"{folder}/error.log", "-c", f"{folder}/nginx.conf"]
     haproxy = [str(found_program("haproxy")), "-db", "-f", f"{folder}/haproxy.cfg"]
     programs = {front.queue: haproxy} if kind == "haproxy" else {}

@@ -18,7 +18,7 @@ import tomllib
 
 from codenav import VERSION
 from codenav.cli.main import OWN, TOOLS, main, usage
-from codenav.program import NONE, PACKAGED
+from codenav.program import NONE, PACKAGED, PROVED
 from tests.packages import needs
 from tests.servers import BUILT, SECONDS, TOP, OnServer, built_program, command
 
@@ -51,13 +51,19 @@ class OneCommand(unittest.TestCase):
             self.assertIn(f"\n  {word} ", usage())
 
     def test_version(self) -> None:
-        """Of the tools, and of the program, which is known to be proved by its place alone."""
+        """Of the tools, and of the program, which is known to be proved where a package says so."""
         with open(os.path.join(TOP, "pyproject.toml"), "rb") as file:
             self.assertEqual(tomllib.load(file)["tool"]["poetry"]["version"], VERSION)
         with tempfile.TemporaryDirectory() as folder:
-            for place, said in (PACKAGED, "proved"), ("bin/codenav", "not known to be proved"):
+            for place, is_marked, said in (
+                (PACKAGED, False, "not known to be proved"),
+                (PACKAGED, True, "proved"),
+                ("bin/codenav", True, "not known to be proved"),
+            ):
                 path = os.path.join(os.path.realpath(folder), place)
-                os.makedirs(os.path.dirname(path))
+                os.makedirs(os.path.dirname(path), exist_ok=True)
+                if is_marked:
+                    open(path + PROVED, "w", encoding="utf-8").close()
                 with open(path, "w", encoding="utf-8") as out:
                     out.write("#!/bin/sh\necho codenav 7.8\n")
                 os.chmod(path, 0o755)

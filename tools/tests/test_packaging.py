@@ -23,7 +23,7 @@ PACKAGING = os.path.join(TOP, "packaging")
 UNITS = ("service", "codenav-backup.service", "codenav-health.service")
 MOST_EXPOSED = 1.5
 SCRIPTS = {
-    "bash": ["build-deb", "build-tar", "try-in-chroot", "stand-in-systemctl"],
+    "bash": ["build-deb", "build-tar", "try-booted", "try-in-chroot", "stand-in-systemctl"],
     "sh": [
         "../codenav",
         "codenav",

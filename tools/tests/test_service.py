@@ -579,7 +579,7 @@ class Turns(OnService):
         words = ["mount", "-t", "tmpfs", "-o", "size=8m", "codenav", self.folder]
         if subprocess.run(words, check=False, capture_output=True).returncode != 0:
             self.skipTest("no file system can be mounted here")
-        self.addCleanup(subprocess.run, ["umount", "--lazy", self.folder], check=True)
+        self.addCleanup(lambda: subprocess.run(["umount", "--lazy", self.folder], check=True))
         process = self.service("--front", self.local)
         with open(f"{self.folder}/full", "wb", buffering=0) as file:
             with suppress(OSError):
