@@ -21,7 +21,6 @@ from codenav.program import free_port
 from codenav.sets.files import MANIFEST
 from codenav.sets.manifest import PartEntry
 from codenav.sets.publish import rebalance
-from codenav.sets.publish.claim import claimed
 from codenav.sets.publish.places import Place
 from codenav.sets.publish.store import Store
 from codenav.sets.ring import home_of
@@ -87,7 +86,7 @@ class Moved(TwoSets):
 
     def rebalance(self, servers: list[str], *words: str) -> tuple[int, list[str], list[str]]:
         """The status of a call, the lines that it prints, and those of faults."""
-        call = ["--servers", ",".join(servers), "--grace", "0", *words]
+        call = ["--servers", ",".join(servers), *words]
         with redirect_stdout(io.StringIO()) as said, redirect_stderr(io.StringIO()) as warned:
             status = REBALANCE.main([*call, self.front.url, self.kept])
         lines = [
@@ -266,7 +265,7 @@ class Lost(Moved):
         """What the home of the first set has of it, as `of` names it."""
         head = self.spread(self.folders[0], servers=self.before).head
         parts = {project.removeprefix(self.name) for project in head.projects()}
-        return {*parts, "-parts", "-claim"}
+        return {*parts, "-parts"}
 
     def others_go_on(self, fault: str) -> None:
         """Asks all questions: those of the lost set fail."""
@@ -346,7 +345,9 @@ ROWS: list[tuple[str, Break, list[str]]] = [
     (
         "a part that is cut",
         lambda own: cut(own.kept_file(own.name, f"/{own.name}-"), 0.9),
-        ["{name}: .*/{name}/set/{name}-[0-9a-f]*.lsif: damaged, since the digest isn't the name's"],
+        [
+            "{name}: .*/{name}/set/{name}-[0-9a-f]*.lsif: damaged, since the digest isn't the manifest's"
+        ],
     ),
     (
         "a surface that isn't there",
@@ -356,7 +357,9 @@ ROWS: list[tuple[str, Break, list[str]]] = [
     (
         "a surface that is cut",
         lambda own: cut(own.kept_file(own.user, "-surface-"), 0.9),
-        ["{user}: .*/{user}-surface-[0-9a-f]*.lsif: damaged, since the digest isn't the name's"],
+        [
+            "{user}: .*/{user}-surface-[0-9a-f]*.lsif: damaged, since the digest isn't the manifest's"
+        ],
     ),
     (
         "two kept folders of one set",
@@ -382,11 +385,6 @@ ROWS: list[tuple[str, Break, list[str]]] = [
         "a manifest that somebody else wrote",
         lambda own: own.put(2, "theirs-parts", b"\\x02set\ttheirs\t1\n"),
         ["{third}: theirs-parts isn't the manifest of a set: somebody else wrote it"],
-    ),
-    (
-        "another publish of the set",
-        lambda own: own.row.enter_context(claimed(Store(own.before[0]), own.name)),
-        ["{name}: another publish of {name} is under way: process [0-9]+ of .*"],
     ),
 ]
 WORDS: list[tuple[list[str], str]] = [

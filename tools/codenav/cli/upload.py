@@ -33,7 +33,6 @@ class UploadCall:
     once: bool = False
     profile: Optional[str] = None
     revision: Optional[str] = None
-    grace: float = 0.0
     words: Sequence[str] = ()
 
 
@@ -56,12 +55,6 @@ def add_upload(parser: argparse.ArgumentParser) -> None:
         "--revision",
         metavar="REV",
         help="the git revision that was indexed, in the checkout of the call: its commit is said, by which to ask where files changed since",
-    )
-    parser.add_argument(
-        "--grace",
-        type=float,
-        metavar="SECONDS",
-        help="of a set: leave the parts of before so long after the switch",
     )
     add_words(
         parser,
@@ -123,7 +116,7 @@ def upload_files(call: UploadCall, server: str, project: str, paths: list[str]) 
 
 def upload_set(call: UploadCall, server: str, folder: str) -> int:
     """Publishes the set in a folder, and prints what was done."""
-    publish = Publish(Store(server), folder, call.grace)
+    publish = Publish(Store(server), folder)
     try:
         print(publish.run().line())
     except NoReply as fault:

@@ -8,7 +8,7 @@ from codenav.limits import MOST_ELEMENTS, excesses
 from codenav.names import set_name
 from codenav.progress import Shows
 from codenav.sets.files import MANIFEST, put_file, read_head, with_head
-from codenav.sets.manifest import SURFACE, PartEntry, part_name
+from codenav.sets.manifest import SURFACE, PartEntry, content_digest, part_name
 from codenav.sets.split.split import SplitOptions, split, uncollected
 from codenav.sets.surface.surface import write_surface
 
@@ -57,9 +57,10 @@ def made_surface(
         parts = split(whole, options, folder, shows).head.parts
     elif surface.bearers:
         with open(whole, "rb") as file:
-            project = part_name(surface_name(name), file.read(), profile)
+            digest = content_digest(file.read(), profile)
+        project = part_name(surface_name(name), digest)
         os.replace(whole, surface_file(folder, project))
-        parts = (PartEntry(project, count, ""),)
+        parts = (PartEntry(project, count, "", digest),)
     named = {surface_file(folder, part.project) for part in parts}
     for own in os.listdir(folder):
         path = os.path.join(folder, own)
