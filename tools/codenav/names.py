@@ -8,7 +8,7 @@ from codenav.faults import BadCall
 PROJECT = re.compile(r"[a-z0-9_-]{1,64}")
 SET = re.compile(r"[a-z0-9_-]{1,47}")
 KEY = re.compile(r"[A-Za-z0-9_-]{1,64}")
-BRANCH = "--"
+BRANCH, PARTS = "--", "-parts"
 
 
 def server_of(url: str) -> str:
@@ -40,6 +40,14 @@ def project_of(text: str) -> str:
     return text
 
 
+def own_project(text: str) -> str:
+    """The text, where it's the name of a project that isn't the manifest of a set, which no tool
+    writes or removes by its name."""
+    if text.endswith(PARTS):
+        raise BadCall(f"{text!r} is the name of the manifest of a set, of {text[: -len(PARTS)]!r}")
+    return project_of(text)
+
+
 def key_of(text: str) -> str:
     """The text, where it's a key."""
     if not KEY.fullmatch(text):
@@ -51,8 +59,10 @@ def set_name(text: str) -> str:
     """The name that a set has on the server: `NAME@BRANCH`, another revision beside the set NAME,
     is `NAME--BRANCH` there. Raises BadCall."""
     name = text.replace("@", BRANCH)
-    if text.count("@") > 1 or SET.fullmatch(name) is None:
-        raise BadCall(f"a set is 1 to 47 characters of a-z 0-9 _ -, or NAME@BRANCH, not {text!r}")
+    if text.count("@") > 1 or SET.fullmatch(name) is None or name.endswith(PARTS):
+        raise BadCall(
+            f"a set is 1 to 47 characters of a-z 0-9 _ -, or NAME@BRANCH, and doesn't end with {PARTS}, not {text!r}"
+        )
     return name
 
 

@@ -11,8 +11,7 @@ from codenav.asking.index import Found, Index, order_of_tag
 from codenav.client.fetch import Fetch
 from codenav.client.projects import listed
 from codenav.faults import NoReply
-from codenav.names import set_name
-from codenav.sets.manifest import PARTS
+from codenav.names import PARTS, set_name
 from codenav.sets.ring import Ring, servers_of
 from codenav.settings.found import servers_above
 

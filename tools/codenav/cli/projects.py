@@ -7,7 +7,7 @@ from dataclasses import dataclass
 from codenav.cli.command import Command
 from codenav.cli.options import add_retry, add_server
 from codenav.client.projects import listed, removed
-from codenav.names import project_of, server_of
+from codenav.names import own_project, server_of
 
 
 @dataclass(slots=True)
@@ -55,7 +55,7 @@ def add_remove(parser: argparse.ArgumentParser) -> None:
 
 def remove(call: RemoveCall) -> int:
     """Removes a project, and says whether there was something to remove."""
-    was_there = removed(server_of(call.url), project_of(call.project), call.retry)
+    was_there = removed(server_of(call.url), own_project(call.project), call.retry)
     if call.json:
         print(json.dumps({"removed": was_there}, separators=(",", ":")))
     else:

@@ -9,10 +9,10 @@ from urllib.parse import quote
 from codenav.addresses import serialized
 from codenav.faults import BadCall
 from codenav.files import whole_file
+from codenav.names import PARTS
 from codenav.sets.manifest import (
     ABOUT,
     DOCUMENT,
-    PARTS,
     DocumentEntry,
     Head,
     ListEntry,

@@ -11,7 +11,8 @@ from dataclasses import dataclass, field
 from typing import Callable, Mapping, Optional
 
 from codenav.faults import BadCall
-from codenav.sets.manifest import PARTS, SURFACE, is_same
+from codenav.names import PARTS
+from codenav.sets.manifest import SURFACE, is_same
 from codenav.sets.publish.base import Base, base_of_head, read_base, remove_manifest
 from codenav.sets.publish.places import Place
 from codenav.sets.publish.publish import Publish

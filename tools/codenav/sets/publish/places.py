@@ -8,7 +8,8 @@ from contextlib import contextmanager
 from typing import Any, Iterable, Iterator, Optional
 
 from codenav.faults import NoReply
-from codenav.sets.manifest import ABOUT, PARTS, SURFACE, Head, NotAManifest, Tag, head_of
+from codenav.names import PARTS
+from codenav.sets.manifest import ABOUT, SURFACE, Head, NotAManifest, Tag, head_of
 from codenav.sets.publish.store import Store
 from codenav.sets.ring import shard_of
 

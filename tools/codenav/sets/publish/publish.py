@@ -12,11 +12,10 @@ from dataclasses import dataclass, field
 from typing import Mapping
 
 from codenav.faults import BadCall, NoReply
-from codenav.names import shown_name
+from codenav.names import PARTS, shown_name
 from codenav.sets.files import MANIFEST, files_of, manifest_of, put_file, read_documents, read_head
 from codenav.sets.manifest import (
     DOCUMENT,
-    PARTS,
     DocumentEntry,
     Head,
     content_digest,

@@ -12,7 +12,8 @@ from dataclasses import dataclass, field
 from typing import Iterator, Mapping, Optional
 
 from codenav.faults import BadCall, NoReply
-from codenav.sets.manifest import PACKAGE, PARTS, SURFACE, package_of
+from codenav.names import PARTS
+from codenav.sets.manifest import PACKAGE, SURFACE, package_of
 from codenav.sets.publish.base import Base, remove_left, remove_set
 from codenav.sets.publish.publish import Files, Plan, Publish, There
 from codenav.sets.publish.store import Store

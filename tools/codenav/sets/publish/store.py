@@ -8,7 +8,8 @@ from typing import Any, Iterator, Optional
 
 from codenav.client.http import address, found_in, refusal_of, request, request_again
 from codenav.faults import NoReply
-from codenav.sets.manifest import ABOUT, PARTS, Head, head_of, mark_in
+from codenav.names import PARTS
+from codenav.sets.manifest import ABOUT, Head, head_of, mark_in
 
 
 class Store:
@@ -43,7 +44,7 @@ class Store:
         """Whether a key was used for a project: a faulty body under it is answered as before then,
         and otherwise refused, and nothing is kept."""
         try:
-            self.put(project, "tags", b"?", key)
+            self.change("PUT", f"/projects/{project}/tags", {"key": key}, b"?")
         except NoReply as fault:
             if not re.search(r"\bT04 ", str(fault)):
                 raise
