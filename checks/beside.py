@@ -78,6 +78,7 @@ def parts(program: str) -> list[Part]:
             (compiler,),
             "gcc libc6-dev",
         ),
+        Part("protocol", (*PYTHON, "checks/protocol.py"), ("spin", "gcc"), "spin gcc libc6-dev"),
         Part("kills", (*PYTHON, "checks/kills.py", program, "40")),
         Part("disk", (*PYTHON, "checks/full_disk.py", program), mounts=True),
         Part(

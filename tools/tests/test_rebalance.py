@@ -246,7 +246,7 @@ class Lost(Moved):
         self.running[0] = self.start(self.ports[0])
         self.others_go_on("D01 ")
         said = self.done(self.before)
-        self.assertEqual(said[0], "sets 2, put surfaces of 2, parts of 1, manifests of 1")
+        self.assertEqual(said[0], "sets 2, put surfaces of 1, parts of 1, manifests of 1")
         self.assertEqual(self.answering(), 0)
         self.assertEqual([len(self.on(server)) for server in self.before], counts)
 
