@@ -13,6 +13,9 @@ from typing import Any, Callable
 from codenav.asking.index import Index
 from codenav.cli.ask import ASK
 from codenav.cli.prepare import PREPARE
+from codenav.cli.projects import REMOVE
+from codenav.cli.publish import PUBLISH
+from codenav.cli.upload import UPLOAD
 from codenav.client import http as client
 from codenav.client.http import found_in, request
 from codenav.faults import BadCall, NoReply
@@ -325,6 +328,31 @@ class Published(OnFile):
             self.assertEqual(remove_set(Store(self.url), NAME), 2)
             self.assertEqual(self.projects(), set())
         self.assertLessEqual(counts[-1] - counts[0], 10)
+
+    def test_names_of_others(self) -> None:
+        """No tool writes or removes what has the name of a set's manifest; projects of names that
+        sets had keys in are others'."""
+        both, tags = Revisions(self.folder), os.path.join(self.folder, "tags")
+        dump = os.path.join(self.folder, "whole.lsif")
+        with open(tags, "w", encoding="utf-8") as file:
+            file.write("x\ta.c\t1\n")
+        Store(self.url).put(f"{NAME}-claim", "tags", b"x\ta.c\t1\n", "k")
+        self.publish(both.folders[0])
+        parts = f"{NAME}-parts"
+        for main, words in (
+            (UPLOAD.main, [self.url, parts, tags]),
+            (REMOVE.main, [self.url, parts]),
+            (PUBLISH.main, ["--no-index", self.url, parts, self.folder]),
+            (PUBLISH.main, ["--set", "--dump", tags, self.url, parts, self.folder]),
+            (PREPARE.main, ["--set", "--name", parts, dump, os.path.join(self.folder, "new")]),
+        ):
+            with self.subTest(words), redirect_stderr(io.StringIO()) as said:
+                status = main(words)
+                self.assertEqual((status, said.getvalue().count("\n")), (2, 1), said.getvalue())
+                self.assertIn(f"{parts!r}", said.getvalue())
+        self.assertEqual(both.answering(self.url), 0)
+        self.assertIn(f"{NAME}-claim", self.projects())
+        self.assertEqual(len(Store(self.url).tags(f"{NAME}-claim", "x")), 1)
 
     def test_crowd(self) -> None:
         """What publishes that broke off have left is removed before more is put, where it's much;

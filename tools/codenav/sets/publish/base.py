@@ -19,6 +19,8 @@ from codenav.sets.publish.store import Store
 
 FIRST_TURN, TURNS = 0xF000, 0x10000
 MOST_FIRSTS = 1 << 24
+VERSIONS = 1024
+"""So much later is the version of a manifest after each removal, so that turns don't come again."""
 DIGITS = 12
 
 
@@ -32,22 +34,19 @@ class Late(BadCall):
 @dataclass(frozen=True)
 class Base:
     """What the next manifest of a set follows: the one with this head, or none; the key that it
-    goes under; and four digits that the names of parts begin with that are put for it."""
+    goes under; four digits that the names of parts begin with that are put for it; and its version.
+    """
 
     name: str
     key: str
     turn: str
+    version: int
     head: Optional[Head] = None
 
     @property
     def mark(self) -> Optional[str]:
         """The mark of the manifest; None where there is none."""
         return None if self.head is None else self.head.mark
-
-    @property
-    def version(self) -> int:
-        """The number of the manifest; 0 where there is none."""
-        return 0 if self.head is None else self.head.version
 
     def named(self, name: str, digest: str, taken: Mapping[str, str]) -> str:
         """What a part of a set or a surface is called that is put for this, by the digest of its
@@ -84,7 +83,8 @@ class Base:
 
 def base_of_head(head: Head) -> Base:
     """The base that a manifest is."""
-    return Base(head.name, f"after-{head.mark}", f"{head.version % FIRST_TURN:04x}", head)
+    turn = f"{head.version % FIRST_TURN:04x}"
+    return Base(head.name, f"after-{head.mark}", turn, head.version, head)
 
 
 def read_base(store: Store, name: str) -> Base:
@@ -96,7 +96,7 @@ def read_base(store: Store, name: str) -> Base:
         head = store.head(name)
         if head is None:
             turn = FIRST_TURN + number % (TURNS - FIRST_TURN)
-            return Base(name, f"first-{number}", f"{turn:04x}")
+            return Base(name, f"first-{number}", f"{turn:04x}", number * VERSIONS)
     return base_of_head(head)
 
 

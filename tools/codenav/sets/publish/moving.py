@@ -52,7 +52,7 @@ class Moving(Spread):
         return {**surface, **super().known_names(base)}
 
     def next_version(self, base: Base) -> int:
-        return 1 + max((head.version for head in self.heads.values()), default=0)
+        return 1 + max([base.version, *(head.version for head in self.heads.values())])
 
     def is_wanted(self, store: Store) -> bool:
         return store is not self.home and (self.joined is None or store.server in self.joined)

@@ -18,6 +18,7 @@ from codenav.sets.manifest import (
     DOCUMENT,
     DocumentEntry,
     Head,
+    NotAManifest,
     content_digest,
     document_lines,
     fields_of,
@@ -120,9 +121,14 @@ class Publish:
     def run(self) -> Report:
         """Publishes the set; raises NoReply, Late or NotAManifest where it can't, and then the old
         set answers on."""
-        for _ in range(TRIES):
-            if self.is_done():
-                break
+        for left in reversed(range(TRIES)):
+            try:
+                if self.is_done():
+                    break
+            except NotAManifest:
+                # one that came between the reading and the list is looked at again
+                if not left:
+                    raise
         else:
             text = "was published again and again, and parts of it are gone"
             raise BadCall(f"the set {shown_name(self.head.name)} {text}")
