@@ -11,7 +11,7 @@ import unittest
 from typing import Any, Callable, Iterator
 
 from codenav.sets.publish.base import Late, remove_set
-from codenav.sets.publish.publish import Publish, Report
+from codenav.sets.publish.publish import Publish
 from tests.in_memory import Kept, Killed, Servers, State
 from tests.switched_sets import CODE, REVISIONS, Scene
 
@@ -91,7 +91,7 @@ class AtOnce(unittest.TestCase):
     def act(self, scene: Scene, number: int) -> Callable[[Kept], Any]:
         """What publishes a revision, or removes the set."""
 
-        def publish(store: Kept) -> Report:
+        def publish(store: Kept) -> Any:
             return Publish(store, scene.folder_of(CODE, number)).run()
 
         return publish if number < REVISIONS else lambda store: remove_set(store, CODE)
