@@ -14,7 +14,7 @@ from typing import Iterable, Mapping, Optional
 
 from codenav.faults import BadCall, NoReply
 from codenav.names import PARTS, shown_name
-from codenav.sets.manifest import PART, SURFACE, Head, NotAManifest
+from codenav.sets.manifest import PART, SURFACE, Head
 from codenav.sets.publish.store import Store
 
 FIRST_TURN, TURNS = 0xF000, 0x10000
@@ -115,14 +115,6 @@ def least_unused(store: Store, name: str) -> int:
         middle = (used + unused) // 2
         used, unused = (middle, unused) if is_used(middle) else (used, middle)
     return unused
-
-
-def refuse_foreign(base: Base, projects: Iterable[str]) -> None:
-    """Refuses what stands in the place of a set's manifest and is none; raises NotAManifest."""
-    if base.head is None and base.name + PARTS in projects:
-        raise NotAManifest(
-            f"{base.name}{PARTS} isn't the manifest of a set: somebody else wrote it"
-        )
 
 
 def remove_set(store: Store, name: str) -> int:

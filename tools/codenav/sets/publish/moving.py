@@ -57,11 +57,11 @@ class Moving(Spread):
     def is_wanted(self, store: Store) -> bool:
         return store is not self.home and (self.joined is None or store.server in self.joined)
 
-    def wanted(self, place: Place) -> set[str]:
+    def wanted(self, store: Store) -> set[str]:
         """What a server is to have of the set."""
-        if place is self.home:
+        if store is self.home:
             return {*self.plan.head.projects(), self.head.name + PARTS}
-        is_wanted = self.is_wanted(place) and not place.is_leaving
+        is_wanted = store in self.others and self.is_wanted(store)
         return set(self.plan.head.surface_projects() if is_wanted else ())
 
     def refuse_changed(self) -> None:
@@ -74,11 +74,7 @@ class Moving(Spread):
 
     def lacks_surface(self) -> bool:
         """Whether a server hasn't the surface that it's to have."""
-        return any(not self.wanted(place) <= place.there.keys() for place in self.others_here())
-
-    def others_here(self) -> list[Place]:
-        """The other servers that are to have the set's surface, or may be."""
-        return [place for place in self.places if place in self.others]
+        return any(not self.wanted(store) <= store.projects().keys() for store in self.others)
 
     def lacks_parts(self) -> bool:
         """Whether the home hasn't all parts."""
@@ -87,16 +83,13 @@ class Moving(Spread):
     def lacks_manifest(self) -> bool:
         """Whether the home hasn't the manifest."""
         known = self.home.heads.get(self.head.name)
-        return known is None or not is_same(known, self.head) or known.names() != self.names()
-
-    def names(self) -> dict[str, str]:
-        """The names of all contents."""
-        return self.plan.head.names()
+        names = self.plan.head.names()
+        return known is None or not is_same(known, self.head) or known.names() != names
 
     def put_surfaces(self) -> None:
         """Puts the surface where it's lacking."""
-        for place in self.others_here():
-            self.put_surface(self.plan, place, place.there)
+        for store in self.others:
+            self.put_surface(self.plan, store, store.projects())
 
     def put_home(self) -> None:
         """Puts the parts that the home hasn't."""

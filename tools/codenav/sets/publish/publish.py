@@ -25,7 +25,7 @@ from codenav.sets.manifest import (
     head_lines,
     tags_text,
 )
-from codenav.sets.publish.base import Base, Late, read_base, refuse_foreign
+from codenav.sets.publish.base import Base, Late, read_base
 from codenav.sets.publish.store import Store
 
 Files = Mapping[str, str]
@@ -52,25 +52,6 @@ class Report:
     def line(self) -> str:
         """The report as it's printed."""
         return f"parts {self.parts}, kept {self.kept}, new {self.new}, removed {self.removed}"
-
-
-@dataclass
-class Naming:
-    """Gives the contents of a set their names: the known ones by their digests, where these are
-    there, and else new ones of the base. `digests` are those of the names that were given."""
-
-    base: Base
-    there: There
-    known: Mapping[str, str]
-    digests: dict[str, str] = field(default_factory=dict)
-
-    def name(self, of_set: str, digest: str, parts: set[str]) -> str:
-        """The name of a content with these parts."""
-        found = self.known.get(digest)
-        if found is None or not parts <= self.there.get(found, set()):
-            found = self.base.named(of_set, digest, self.digests)
-        self.digests[found] = digest
-        return found
 
 
 @dataclass
@@ -166,7 +147,9 @@ class Publish:
     def refuse_others(self, base: Base, there: There) -> None:
         """Refuses what stands in the set's place on the server and isn't a set: a manifest that
         somebody else wrote, or a project of its name."""
-        refuse_foreign(base, there)
+        if base.head is None and base.name + PARTS in there:
+            text = "isn't the manifest of a set: somebody else wrote it"
+            raise NotAManifest(f"{base.name}{PARTS} {text}")
         if base.name in there and not self.in_place_of_project:
             raise BadCall(
                 f"a project {base.name} is on the server, which is asked in the set's place: `codenav remove` removes it"
@@ -181,20 +164,28 @@ class Publish:
         return base.version + 1
 
     def planned(self, base: Base, there: There) -> Plan:
-        """The set as it's put for a base where this is there."""
-        naming = Naming(base, there, self.known_names(base))
+        """The set as it's put for a base where this is there: a content keeps its name where that
+        is there, and has a new one of the base else."""
+        known, taken = self.known_names(base), dict[str, str]()
+
+        def named(of_set: str, digest: str, parts: set[str]) -> str:
+            found = known.get(digest)
+            if found is None or not parts <= there.get(found, set()):
+                found = base.named(of_set, digest, taken)
+            taken[found] = digest
+            return found
+
         names = {
-            own.digest: naming.name(base.name, own.digest, set(self.files[own.project]))
+            own.digest: named(base.name, own.digest, set(self.files[own.project]))
             for own in self.head.parts
         }
         for own in self.head.surface:
-            names[own.digest] = naming.name(own.project.rpartition("-")[0], own.digest, set())
+            names[own.digest] = named(own.project.rpartition("-")[0], own.digest, set())
         projects = {own.project: names[own.digest] for own in self.head.parts}
-        head = self.head.with_names(names)._replace(
-            lists=(), mark=secrets.token_hex(16), version=self.next_version(base)
-        )
+        mark, version = secrets.token_hex(16), self.next_version(base)
+        head = self.head.with_names(names)._replace(lists=(), mark=mark, version=version)
         documents = [own._replace(project=projects[own.project]) for own in self.documents]
-        made = manifest_of(head, documents, lambda digest: naming.name(base.name, digest, {"tags"}))
+        made = manifest_of(head, documents, lambda digest: named(base.name, digest, {"tags"}))
         files: dict[str, Files] = {projects[one]: own for one, own in self.files.items()}
         return Plan(base, made[0], made[2], files, made[1])
 
