@@ -9,6 +9,7 @@ PROJECT = re.compile(r"[a-z0-9_-]{1,64}")
 SET = re.compile(r"[a-z0-9_-]{1,47}")
 KEY = re.compile(r"[A-Za-z0-9_-]{1,64}")
 BRANCH, PARTS = "--", "-parts"
+PART = re.compile(r"(?P<set>[a-z0-9_-]{1,47})-(?P<turn>[0-9a-f]{4})[0-9a-f]{12}")
 
 
 def server_of(url: str) -> str:
@@ -46,6 +47,14 @@ def own_project(text: str) -> str:
     if text.endswith(PARTS):
         raise BadCall(f"{text!r} is the name of the manifest of a set, of {text[: -len(PARTS)]!r}")
     return project_of(text)
+
+
+def new_project(text: str) -> str:
+    """The text, where it's such a name, and not that of a part of a set either, which isn't shown by
+    itself and goes with its set."""
+    if PART.fullmatch(text):
+        raise BadCall(f"{text!r} is the name of a part of a set")
+    return own_project(text)
 
 
 def key_of(text: str) -> str:

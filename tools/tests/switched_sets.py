@@ -8,10 +8,10 @@ import random
 from typing import Any, Iterator, NamedTuple, Optional
 
 from codenav.dumps.tables import graph
-from codenav.names import PARTS
+from codenav.names import PART, PARTS
 from codenav.progress import Quiet
 from codenav.sets.files import MANIFEST, read_head
-from codenav.sets.manifest import PART, fields_of
+from codenav.sets.manifest import fields_of
 from codenav.sets.publish.base import remove_set
 from codenav.sets.publish.publish import Publish
 from codenav.sets.publish.spread import Spread

@@ -13,7 +13,7 @@ from codenav.client.projects import fresh_key, once_key
 from codenav.dumps.dump import HEAD_BYTES, is_index
 from codenav.dumps.packed import GZIP, ZSTD, opened
 from codenav.faults import BadCall, NoReply
-from codenav.names import key_of, own_project, server_of, shown_name
+from codenav.names import key_of, new_project, server_of, shown_name
 from codenav.publishing.made import Body
 from codenav.publishing.send import put_body
 from codenav.sets.publish.publish import Publish
@@ -104,7 +104,7 @@ def upload_files(call: UploadCall, server: str, project: str, paths: list[str]) 
     commit, fault = indexed_at(os.curdir, call.revision) if call.revision else ("", "")
     status = 0
     for path in paths:
-        status = status or upload_file(call, server, own_project(project), path)
+        status = status or upload_file(call, server, new_project(project), path)
     if commit and not status:
         line = (
             f"the index is of revision {commit}: where files changed ask with --revision {commit}"

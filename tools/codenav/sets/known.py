@@ -13,8 +13,8 @@ from typing import Iterator, Optional
 
 from codenav.client.fetch import Fetch
 from codenav.faults import NoReply
-from codenav.names import BRANCH, PARTS, base_name, shown_name
-from codenav.sets.manifest import ABOUT, PART, SURFACE, Head, NotAManifest, head_of, mark_in
+from codenav.names import BRANCH, PART, PARTS, base_name, shown_name
+from codenav.sets.manifest import ABOUT, SURFACE, Head, NotAManifest, head_of, mark_in
 
 BRIEF = 5.0
 AWAY_SECONDS = 60.0

@@ -23,7 +23,7 @@ from bisect import bisect_right
 from typing import Any, Iterable, Iterator, Mapping, NamedTuple, Optional, Sequence
 
 from codenav.faults import BadCall
-from codenav.names import PARTS, shown_name
+from codenav.names import PART, PARTS, shown_name
 
 FORMAT, OLD_FORMAT = "2", "1"
 TOOL = "codenav-split-lsif-1"
@@ -33,7 +33,6 @@ PACKAGE = f"{ABOUT}package"
 MOST_LINES = 99_000
 DIGITS = 16
 LIST_LINES = 20_000
-PART = re.compile(r"(?P<set>[a-z0-9_-]{1,47})-(?P<turn>[0-9a-f]{4})[0-9a-f]{12}")
 SURFACE = "-surface"
 Tag = dict[str, Any]
 

@@ -13,8 +13,8 @@ from itertools import count
 from typing import Iterable, Mapping, Optional
 
 from codenav.faults import BadCall, NoReply
-from codenav.names import PARTS, shown_name
-from codenav.sets.manifest import PART, SURFACE, Head
+from codenav.names import PART, PARTS, shown_name
+from codenav.sets.manifest import SURFACE, Head
 from codenav.sets.publish.store import Store
 
 FIRST_TURN, TURNS = 0xF000, 0x10000
