@@ -151,7 +151,8 @@ def surfaces_on(crates: list[Crate], servers: list[str]) -> tuple[int, int]:
     weights = {
         part.project: (part.elements, at == 0)
         for crate in crates
-        for at, part in enumerate(crate.surface.parts)
+        for head in [Store(home_of(servers, crate.name)).head(crate.name)]
+        for at, part in enumerate(head.surface if head else ())
     }
     there = [
         weights[one] for server in servers for one in Store(server).projects() if one in weights

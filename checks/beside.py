@@ -85,6 +85,7 @@ def parts(program: str) -> list[Part]:
             (compiler, "git", "ctags"),
             "gcc libc6-dev git universal-ctags",
         ),
+        Part("protocol", (*PYTHON, "checks/protocol.py"), ("spin", "gcc"), "spin gcc libc6-dev"),
         Part("kills", (*PYTHON, "checks/kills.py", program, "40")),
         Part("disk", (*PYTHON, "checks/full_disk.py", program), mounts=True),
         Part(

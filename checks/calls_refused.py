@@ -25,9 +25,10 @@ from pathlib import Path
 from typing import Any
 
 from calls import MOST, WORDS, Ended, Files, Room, State, Word, Wrong
+from refusing import FULL, KILL, TOP, built
+
 from codenav.program import Program
 from codenav.sets.files import MANIFEST, read_head
-from refusing import FULL, KILL, TOP, built
 
 # Of all calls and their errors each run of the gate tries one of so many shares.
 TURNS = 29

@@ -8,7 +8,8 @@ from codenav.faults import BadCall
 PROJECT = re.compile(r"[a-z0-9_-]{1,64}")
 SET = re.compile(r"[a-z0-9_-]{1,47}")
 KEY = re.compile(r"[A-Za-z0-9_-]{1,64}")
-BRANCH = "--"
+BRANCH, PARTS = "--", "-parts"
+PART = re.compile(r"(?P<set>[a-z0-9_-]{1,47})-(?P<turn>[0-9a-f]{4})[0-9a-f]{12}")
 
 
 def server_of(url: str) -> str:
@@ -40,6 +41,22 @@ def project_of(text: str) -> str:
     return text
 
 
+def own_project(text: str) -> str:
+    """The text, where it's the name of a project that isn't the manifest of a set, which no tool
+    writes or removes by its name."""
+    if text.endswith(PARTS):
+        raise BadCall(f"{text!r} is the name of the manifest of a set, of {text[: -len(PARTS)]!r}")
+    return project_of(text)
+
+
+def new_project(text: str) -> str:
+    """The text, where it's such a name, and not that of a part of a set either, which isn't shown by
+    itself and goes with its set."""
+    if PART.fullmatch(text):
+        raise BadCall(f"{text!r} is the name of a part of a set")
+    return own_project(text)
+
+
 def key_of(text: str) -> str:
     """The text, where it's a key."""
     if not KEY.fullmatch(text):
@@ -49,10 +66,14 @@ def key_of(text: str) -> str:
 
 def set_name(text: str) -> str:
     """The name that a set has on the server: `NAME@BRANCH`, another revision beside the set NAME,
-    is `NAME--BRANCH` there. Raises BadCall."""
-    name = text.replace("@", BRANCH)
-    if text.count("@") > 1 or SET.fullmatch(name) is None:
-        raise BadCall(f"a set is 1 to 47 characters of a-z 0-9 _ -, or NAME@BRANCH, not {text!r}")
+    is `NAME--BRANCH` there, which is no other set's name. Raises BadCall."""
+    names = text.split("@")
+    name = BRANCH.join(names)
+    is_one = len(names) < 3 and all(names) and BRANCH not in text and "-@" not in text
+    if not is_one or "@-" in text or SET.fullmatch(name) is None or name.endswith(PARTS):
+        raise BadCall(
+            f"a set is 1 to 47 characters of a-z 0-9 _ -, or NAME@BRANCH, without {BRANCH} and not with {PARTS} at its end, not {text!r}"
+        )
     return name
 
 

@@ -12,7 +12,7 @@ from codenav.sets.publish.store import Store
 from codenav.sets.ring import Ring
 from tests.dump_walks import Question, Walk, answered
 
-FRONT = "front"
+FRONT, NO_TAGS = "front", b"?"
 
 
 class Project(NamedTuple):
@@ -131,6 +131,8 @@ class Servers:
         server = self.server_of(server, project)
         if (server, project, key) in self.keys:
             return
+        if more[0] == NO_TAGS:
+            raise NoReply("T04 not sorted")
         self.keys.add((server, project, key))
         state = self.moments[-1][server]
         if method == "DELETE":

@@ -6,14 +6,14 @@ import functools
 import os
 import random
 from typing import Any, Iterator, NamedTuple, Optional
-from unittest import mock
 
 from codenav.dumps.tables import graph
+from codenav.names import PART, PARTS
 from codenav.progress import Quiet
 from codenav.sets.files import MANIFEST, read_head
-from codenav.sets.manifest import PART, PARTS
-from codenav.sets.publish import claim
-from codenav.sets.publish.publish import Publish, remove_set
+from codenav.sets.manifest import fields_of
+from codenav.sets.publish.base import remove_set
+from codenav.sets.publish.publish import Publish
 from codenav.sets.publish.spread import Spread
 from codenav.sets.split.crossing import Shared
 from codenav.sets.surface.made import keep_surface, made_surface
@@ -193,13 +193,12 @@ class Scene:
         if OTHER in self.others:
             self.put(servers, OTHER, self.others[OTHER])
         begin = len(servers.moments) - 1
-        with mock.patch.object(claim, "is_alive", lambda record: False):
-            for what, revision, left in acts:
-                servers.left = left
-                try:
-                    self.act(servers, what, revision)
-                except Killed:
-                    pass
+        for what, revision, left in acts:
+            servers.left = left
+            try:
+                self.act(servers, what, revision)
+            except Killed:
+                pass
         del servers.moments[:begin]
         return History(self, servers)
 
@@ -262,7 +261,8 @@ class History:
     def __init__(self, scene: Scene, servers: Servers) -> None:
         self.scene, self.servers = scene, servers
         manifests = [os.path.join(scene.folder_of(CODE, n), MANIFEST) for n in range(REVISIONS)]
-        self.of_parts = {frozenset(read_head(own).projects()): n for n, own in enumerate(manifests)}
+        heads = enumerate(map(read_head, manifests))
+        self.of_parts = {frozenset(part.digest for part in head.parts): n for n, head in heads}
         self.revisions = {
             part: [self.revisions_of(moment, part) for moment in servers.moments]
             for part in ("dump", "tags")
@@ -276,8 +276,8 @@ class History:
         for state in moment.values():
             if CODE + PARTS in state:
                 tags = state[CODE + PARTS].tags or ()
-                parts = frozenset(tag["file"] for tag in tags if tag["name"] == "\x02part")
-                found.add(self.of_parts[parts])
+                parts = [fields_of(tag)["digest"] for tag in tags if tag["name"] == "\x02part"]
+                found.add(self.of_parts[frozenset(parts)])
             own = getattr(state.get(CODE), part, None)
             if own is not None:
                 found.update(self.of_project(own))

@@ -4,6 +4,7 @@ stays."""
 import contextlib
 import io
 import os
+import shlex
 import signal
 import subprocess
 import tempfile
@@ -42,6 +43,39 @@ def processes_with(mark: str) -> list[str]:
         if not found or time.monotonic() > until:
             return found
         time.sleep(0.1)
+
+
+class Descriptors(unittest.TestCase):
+    def test_what_is_closed_or_full(self) -> None:
+        """A standard input, output or error that isn't there, or takes nothing: what is written is
+        whole, and what can't be written is one line with status 2."""
+        folder = self.enterContext(tempfile.TemporaryDirectory())
+        whole, own = os.path.join(folder, "whole"), os.path.join(folder, "own")
+        prepare = shlex.join([*command("prepare"), RAW])
+        subprocess.run(["sh", "-c", f"{prepare} {whole}"], check=True, capture_output=True)
+        closed, full = "Bad file descriptor", "No space left on device"
+        rows = [
+            (f"{prepare} {own} 2>&-", 0, ""),
+            (f"{prepare} {own} 2>/dev/full", 0, ""),
+            (f"{prepare} - 2>&- >{own}", 0, ""),
+            (f"{prepare} - >&-", 2, f"codenav prepare: standard output: {closed}\n"),
+            (f"{prepare} - >/dev/full", 2, f"codenav prepare: standard output: {full}\n"),
+            (f"{shlex.join(command('--version'))} >&-", 2, f"codenav: standard output: {closed}\n"),
+            (f"{shlex.join(command('prepare'))} - {own} <&-", 2, f"codenav prepare: .*{closed}\n"),
+        ]
+        for line, status, said in rows:
+            with self.subTest(line):
+                if os.path.exists(own):
+                    os.unlink(own)
+                run = subprocess.run(
+                    ["sh", "-c", line], capture_output=True, text=True, check=False
+                )
+                self.assertEqual((run.returncode, run.stdout), (status, ""))
+                self.assertRegex(run.stderr.splitlines(True)[-1] if said else "", f"^{said}$")
+                if status == 0:
+                    self.assertEqual(Path(own).read_bytes(), Path(whole).read_bytes())
+                else:
+                    self.assertFalse(os.path.exists(own))
 
 
 class Ended(unittest.TestCase):

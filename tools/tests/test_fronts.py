@@ -420,7 +420,7 @@ class Lua(OfFront.Tests):
         servers = [self.own_server() for _ in range(3)]
         front = self.fresh([*servers, NOBODY])
         names = [f"project_{number}" for number in range(8)]
-        names += [f"set-{digit * 16}" for digit in "0123"] + ["set-parts", "set-claim"]
+        names += [f"set-{digit * 16}" for digit in "0123"] + ["set-parts"]
         for name in names:
             body = f"!_TAG_FILE_FORMAT\t2\t//\n!_TAG_FILE_SORTED\t1\t//\n{name}\ta.c\t1\n".encode()
             self.assertEqual(front.ask("PUT", f"/projects/{name}/tags?key=k", body)[0], 200)

@@ -246,7 +246,7 @@ class Mapped(InRepository):
         )
         with self.assertRaisesRegex(
             NotThere,
-            r"src/a.rs:1: this word isn't in the text that was indexed \(HEAD\)$",
+            r"src/a.rs:1: nothing in the text that was indexed is surely this word \(HEAD\)$",
         ):
             indexed.to_index("app", Place(self.path, 0, 4))
         [place] = indexed.from_index([self.place(2, 4, 7)])

@@ -20,7 +20,8 @@ from codenav.cli.upload import UPLOAD
 from codenav.client.fetch import Fetcher, fetch_from
 from codenav.faults import NoReply
 from codenav.records import Prepared, new_record
-from codenav.sets.publish.publish import Publish, remove_set
+from codenav.sets.publish.base import remove_set
+from codenav.sets.publish.publish import Publish
 from codenav.sets.publish.store import Store
 from codenav.settings.found import Settings
 from codenav.texts.places import Place

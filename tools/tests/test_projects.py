@@ -4,6 +4,7 @@ them where the server is that of CODENAV_URL."""
 import json
 import os
 import tempfile
+import unittest
 from typing import Any
 from unittest import mock
 
@@ -11,6 +12,8 @@ from codenav.cli.ask import ASK
 from codenav.cli.lsp import LSP
 from codenav.cli.projects import LIST, REMOVE
 from codenav.client.projects import listed
+from codenav.faults import BadCall
+from codenav.names import set_name, shown_name
 from codenav.sets.listed import by_names
 from codenav.sets.publish.publish import Publish
 from codenav.sets.publish.store import Store
@@ -24,14 +27,25 @@ ROWS: list[tuple[str, list[str]]] = [
     # projects, `+` with dumps and tags, `-` with tags alone, and what is listed
     ("", []),
     ("a+ b-", ["a: dump and tags", "b: tags"]),
-    (f"a-claim- a-{DIGITS}+ a-parts-", ["a: a set, parts 1"]),
-    (f"a+ a-claim- a-{DIGITS}+ a-parts-", ["a: a set, parts 1", "a: dump and tags"]),
+    (f"a-claim- a-{DIGITS}+ a-parts-", ["a-claim: tags", "a: a set, parts 1"]),
+    (f"a+ a-{DIGITS}+ a-parts-", ["a: a set, parts 1", "a: dump and tags"]),
     (f"a-{DIGITS}+ a-{DIGITS[::-1]}- a-parts-", ["a: a set, parts 2"]),
     (f"a--b-{DIGITS}+ a--b-parts- a-parts+", ["a-parts: dump and tags", "a@b: a set, parts 1"]),
     (f"a-{DIGITS}+", [f"a-{DIGITS}: dump and tags"]),
     ("car-parts- car+", ["car: dump and tags", "car-parts: tags"]),
     (f"a-surface-{DIGITS}+", ["a: the surface of a set elsewhere, parts 1"]),
 ]
+
+
+class Names(unittest.TestCase):
+    def test_no_two_sets_have_one_name(self) -> None:
+        """A branch's name on the server is that of no other set."""
+        rows = {"a": "a", "a@b": "a--b", "a-b@c-d": "a-b--c-d", "a-": "a-"}
+        for text, name in rows.items():
+            self.assertEqual((set_name(text), shown_name(name)), (name, text))
+        for text in ("a--b", "a@", "@b", "a-@b", "a@-b", "a@b@c", "a@b--c", "a--b@c", "a-parts"):
+            with self.subTest(text), self.assertRaisesRegex(BadCall, "a set is 1 to 47"):
+                set_name(text)
 
 
 class Lists(OnServer):

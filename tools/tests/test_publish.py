@@ -490,7 +490,7 @@ class Publish(OnCheckout):
             found = self.places("file:///src/tr/crate/src/lib.rs", 17, 11)
             self.assertEqual((words, found), (words, expected))
             names = {project["name"] for project in listed(self.url)}
-            self.assertEqual(("app" in names, len(names)), (not is_set, 3 if is_set else 1))
+            self.assertEqual(("app" in names, len(names)), (not is_set, 2 if is_set else 1))
 
     def test_a_set_of_an_index(self) -> None:
         """A SCIP index becomes a set by itself, without a dump of it, by --set or where its dump

@@ -130,7 +130,7 @@ class Page(unittest.TestCase):
 
         front = self.front("lua", [host_of(server) for server in self.servers], grouped)
         groups = [f"group{number}" for number in range(8)]
-        ends = ("one", "two", "two-parts", "two-claim", "two-0123456789abcdef")
+        ends = ("one", "two", "two-parts", "two-0123456789abcdef")
         names = {group: {f"{group}_{end}" for end in ends} for group in groups}
         found = self.put_names(front, sorted(set.union(*names.values())))
         for group, own in names.items():
@@ -160,7 +160,7 @@ class Page(unittest.TestCase):
         self.assertIn(f"uploaded app: a set at {home}, parts 1,", said["publish"])
         for server in self.servers:
             kinds = {re.sub("[0-9a-f]{16}$", "", name) for name in Store(server).projects()}
-            wanted = {"app-", "app-parts", "app-claim"} if server == home else {"app-surface-"}
+            wanted = {"app-", "app-parts"} if server == home else {"app-surface-"}
             self.assertEqual(kinds, wanted)
         self.assertEqual(said["ask"], "run.py:1:5: run_all\n")
 

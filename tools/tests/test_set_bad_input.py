@@ -104,7 +104,7 @@ class BadInput(OnFile):
                     self.assertEqual((status, warned.count("\n")), (2, 1), warned)
                     self.assertRegex(warned, f"another publish of {NAME} (is under way|was faster)")
             self.both.answering(self.url)
-            self.assertEqual(len(self.projects()), 4)
+            self.assertEqual(len(self.projects()), 3)
 
     def test_a_part_removed_by_hand(self) -> None:
         """A question that needs the part is refused, and the next publish puts it back."""

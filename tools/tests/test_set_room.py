@@ -78,12 +78,12 @@ class NoRoom(OnServer):
         self.assertEqual((status, said.count("\n")), (2, 1), said)
         self.assertRegex(said, f"^codenav upload: {fault} .*; the set {NAME} is as it was\n$")
         self.assertEqual(self.both.answering(self.url), 0)
-        self.assertEqual(len(Store(self.url).projects()), 5)
+        self.assertEqual(len(Store(self.url).projects()), 4)
         give_room()
         said = "parts 2, kept 1, new 1, removed 2\n"
         self.assertEqual(self.publish(self.next), (0, said))
         self.assertEqual(self.both.answering(self.url), 1)
-        self.assertEqual(len(Store(self.url).projects()), 4)
+        self.assertEqual(len(Store(self.url).projects()), 3)
 
 
 def give_back(pid: int, limits: tuple[int, int]) -> None:

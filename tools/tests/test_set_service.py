@@ -5,20 +5,23 @@ import io
 import json
 import multiprocessing
 import os
+import re
 import tempfile
 from contextlib import redirect_stderr, redirect_stdout
 from typing import Any, Callable
-from unittest import mock
 
 from codenav.asking.index import Index
 from codenav.cli.ask import ASK
 from codenav.cli.prepare import PREPARE
+from codenav.cli.projects import REMOVE
+from codenav.cli.publish import PUBLISH
+from codenav.cli.upload import UPLOAD
 from codenav.client import http as client
 from codenav.client.http import found_in, request
 from codenav.faults import BadCall, NoReply
-from codenav.sets.manifest import NotAManifest
-from codenav.sets.publish import claim
-from codenav.sets.publish.claim import Late
+from codenav.sets.files import MANIFEST
+from codenav.sets.manifest import NotAManifest, content_digest
+from codenav.sets.publish.base import Late, read_base, remove_set
 from codenav.sets.publish.publish import Publish
 from codenav.sets.publish.store import Store
 from codenav.texts.places import uri_of
@@ -29,6 +32,9 @@ from tests.test_lsp import Editor
 
 NAME = "code"
 MOST_STEPS = 40
+REMOVALS = 20
+OTHERS: list[list[int]] = [[0], [1, 0], []]
+LATE = f"another publish of {NAME} was faster; nothing was lost"
 
 
 def revision(number: int) -> bytes:
@@ -123,6 +129,34 @@ class Stops(Store):
             self.stop()
 
 
+class StopsAtRemoval(Store):
+    """Stops before a removal."""
+
+    def __init__(self, url: str, at: int, stop: Callable[[], None]) -> None:
+        super().__init__(url, retry=False)
+        self.at, self.stop = at, stop
+
+    def remove(self, project: str, key: str = "") -> None:
+        self.at -= 1
+        if self.at == 0:
+            self.stop()
+        super().remove(project, key)
+
+
+class Counts(Store):
+    """Counts its requests."""
+
+    count = 0
+
+    def found(self, path: str, parameters: dict[str, Any], member: str) -> Any:
+        self.count += 1
+        return super().found(path, parameters, member)
+
+    def change(self, method: str, path: str, parameters: dict[str, Any], body: bytes) -> None:
+        self.count += 1
+        super().change(method, path, parameters, body)
+
+
 def publish_and_die(url: str, folder: str, at: int, is_made: bool) -> None:
     """Publishes in a process that ends at a change, as if it were killed."""
     Publish(Stops(url, at, is_made, lambda: os._exit(9)), folder).run()
@@ -160,7 +194,7 @@ class Published(OnFile):
             self.assertIn(
                 report, ("parts 2, kept 0, new 2, removed 2", "parts 2, kept 1, new 1, removed 1")
             )
-            self.assertEqual(len(self.projects()), 4)
+            self.assertEqual(len(self.projects()), 3)
 
     def test_asked_over_a_switch(self) -> None:
         """What a tool has read of manifests is read again where it has to be: the same one asks
@@ -198,10 +232,10 @@ class Published(OnFile):
                 switched.append(both.answering(self.url))
                 self.publish(both.folders[1])
                 self.assertEqual(both.answering(self.url), 1)
-                self.assertEqual(len(self.projects()), 4)
+                self.assertEqual(len(self.projects()), 3)
                 self.publish(both.folders[0])
                 self.assertEqual(both.answering(self.url), 0)
-                self.assertEqual(len(self.projects()), 4)
+                self.assertEqual(len(self.projects()), 3)
             if child.exitcode == 0:
                 break
         self.assertEqual(child.exitcode, 0)
@@ -222,48 +256,133 @@ class Published(OnFile):
                 if not self.server.is_there():
                     self.start()
                 both.answering(self.url)
-                self.publish_after_break(both.folders[1])
+                self.publish(both.folders[1])
                 self.assertEqual(both.answering(self.url), 1)
-                self.assertEqual(len(self.projects()), 4)
+                self.assertEqual(len(self.projects()), 3)
                 self.publish(both.folders[0])
             if store.at > 0:
                 break
         self.assertGreater(store.at, 0)
-
-    def publish_after_break(self, folder: str) -> None:
-        """Publishes where a claim of this very process may still be there."""
-        with mock.patch.object(claim, "is_alive", lambda record: False):
-            self.publish(folder)
 
     def test_two_at_once(self) -> None:
-        """While one publish goes on another is refused; one whose claim another has now is
-        refused too, and never a mixture."""
-        both = Revisions(self.folder)
+        """A publish that stops before any change goes on when others have ended: it's never a
+        mixture, and the next one leaves nothing."""
+        both, late = Revisions(self.folder), 0
         self.publish(both.folders[0])
-        late: list[str] = []
-
-        def other() -> None:
-            try:
+        for others in OTHERS:
+            for at in range(1, MOST_STEPS):
+                store = Stops(self.url, at, False, lambda: self.meanwhile(both, others))
+                try:
+                    Publish(store, both.folders[1]).run()
+                except Late as fault:
+                    self.assertEqual(str(fault), LATE)
+                    late += 1
+                if self.projects():
+                    both.answering(self.url)
                 self.publish(both.folders[0])
-            except Late as fault:
-                late.append(str(fault))
+                self.assertEqual(both.answering(self.url), 0)
+                self.assertEqual(len(self.projects()), 3)
+                if store.at > 0:
+                    break
+            self.assertGreater(store.at, 0)
+        self.assertGreater(late, 0)
 
-        Publish(Stops(self.url, 2, True, other), both.folders[1]).run()
-        self.assertEqual(len(late), 1)
-        self.assertRegex(late[0], "another publish of code is under way: process [0-9]+ of .*")
-        self.assertEqual(both.answering(self.url), 1)
-        for at in range(2, MOST_STEPS):
-            store = Stops(self.url, at, False, lambda: self.publish_after_break(both.folders[0]))
-            try:
-                Publish(store, both.folders[1]).run()
-            except Late:
-                pass
-            both.answering(self.url)
-            self.publish(both.folders[1])
-            self.assertEqual(both.answering(self.url), 1)
+    def meanwhile(self, both: Revisions, others: list[int]) -> None:
+        """Publishes revisions, or removes the set where there's none."""
+        for number in others:
+            self.publish(both.folders[number])
+            self.assertEqual(both.answering(self.url), number)
+        if not others:
+            remove_set(Store(self.url), NAME)
+
+    def test_removals_that_come_late(self) -> None:
+        """A publish is stopped before each of its removals, and goes on after another one of what it
+        removes: nothing of that is lost."""
+        both = Revisions(self.folder)
+        for at in range(1, MOST_STEPS):
+            self.publish(both.folders[0])
+            store = StopsAtRemoval(self.url, at, lambda: self.meanwhile(both, [0]))
+            Publish(store, both.folders[1]).run()
             if store.at > 0:
                 break
-        self.assertGreater(store.at, 0)
+            self.assertEqual(both.answering(self.url), 0)
+        self.assertGreater(at, 1)
+
+    def test_removed_meanwhile(self) -> None:
+        """A set is removed by who has read it before another publish: that one stays."""
+        both = Revisions(self.folder)
+        self.publish(both.folders[0])
+        store = StopsAtRemoval(self.url, 1, lambda: self.meanwhile(both, [1]))
+        with self.assertRaises(Late):
+            remove_set(store, NAME)
+        self.assertEqual(both.answering(self.url), 1)
+
+    def test_often_removed(self) -> None:
+        """A set that was removed often is published by about as many requests as one that never
+        was."""
+        both, counts = Revisions(self.folder), []
+        for _ in range(REMOVALS):
+            store = Counts(self.url)
+            Publish(store, both.folders[0]).run()
+            counts.append(store.count)
+            self.assertEqual(remove_set(Store(self.url), NAME), 2)
+            self.assertEqual(self.projects(), set())
+        self.assertLessEqual(counts[-1] - counts[0], 10)
+
+    def test_names_of_others(self) -> None:
+        """No tool writes or removes what has the name of a set's manifest; projects of names that
+        sets had keys in are others'."""
+        both, tags = Revisions(self.folder), os.path.join(self.folder, "tags")
+        dump = os.path.join(self.folder, "whole.lsif")
+        with open(tags, "w", encoding="utf-8") as file:
+            file.write("x\ta.c\t1\n")
+        Store(self.url).put(f"{NAME}-claim", "tags", b"x\ta.c\t1\n", "k")
+        self.publish(both.folders[0])
+        parts, part = f"{NAME}-parts", f"{NAME}-0123456789abcdef"
+        for main, words in (
+            (UPLOAD.main, [self.url, parts, tags]),
+            (UPLOAD.main, [self.url, part, tags]),
+            (REMOVE.main, [self.url, parts]),
+            (PUBLISH.main, ["--no-index", self.url, part, self.folder]),
+            (PUBLISH.main, ["--no-index", self.url, parts, self.folder]),
+            (PUBLISH.main, ["--set", "--dump", tags, self.url, parts, self.folder]),
+            (PREPARE.main, ["--set", "--name", parts, dump, os.path.join(self.folder, "new")]),
+        ):
+            with self.subTest(words), redirect_stderr(io.StringIO()) as said:
+                status = main(words)
+                self.assertEqual((status, said.getvalue().count("\n")), (2, 1), said.getvalue())
+                self.assertRegex(said.getvalue(), f"'({parts}|{part})'")
+        self.assertEqual(both.answering(self.url), 0)
+        self.assertIn(f"{NAME}-claim", self.projects())
+        self.assertEqual(len(Store(self.url).tags(f"{NAME}-claim", "x")), 1)
+
+    def test_crowd(self) -> None:
+        """What publishes that broke off have left is removed before more is put, where it's much;
+        the set answers on."""
+        both = Revisions(self.folder)
+        self.publish(both.folders[0])
+        turn = read_base(Store(self.url), NAME).turn
+        for number in range(9):
+            left = f"{NAME}-{turn}{number:012x}"
+            Store(self.url).put(left, "tags", b"x\ta.c\t1\n", "k")
+        self.assertEqual(self.publish(both.folders[1]).rpartition(" ")[2], "10")
+        self.assertEqual((both.answering(self.url), len(self.projects())), (1, 3))
+
+    def test_older_format(self) -> None:
+        """A set of the format of before: who asks is told in one line to publish again, and the next
+        publish takes its place."""
+        both = Revisions(self.folder)
+        self.publish(both.folders[0])
+        text = b'\\x02set\tcode\t1;"\tformat:1\tdocuments:1\tmark:m\n'
+        text += f'\\x02part\t{NAME}-{"0" * 16}\t1;"\telements:1\tfirst:file:///a\n'.encode()
+        Store(self.url).remove(f"{NAME}-parts")
+        Store(self.url).put(f"{NAME}-parts", "tags", text, "k")
+        with self.assertRaisesRegex(
+            NotAManifest, "^the set code was made by .*: publish it again$"
+        ):
+            both.answering(self.url)
+        self.publish(both.folders[1])
+        self.assertEqual((both.answering(self.url), len(self.projects())), (1, 3))
 
     def test_removed_by_hand(self) -> None:
         """A part that was removed by hand is one plain line for who asks, and the next publish puts
@@ -291,7 +410,7 @@ class Published(OnFile):
         Store(self.url).put(NAME, "tags", b"x\ta.c\t1\n", "k")
         with self.assertRaisesRegex(BadCall, f"^a project {NAME} is on the server"):
             self.publish(both.folders[0])
-        self.assertEqual(self.projects(), {NAME, f"{NAME}-claim"})
+        self.assertEqual(self.projects(), {NAME})
 
     def test_no_manifest(self) -> None:
         """A manifest that somebody else wrote is refused in one line, and stays."""
@@ -311,12 +430,20 @@ class Published(OnFile):
                 )
 
     def test_refused_in_the_midst(self) -> None:
-        """Where the server refuses an upload in the midst the old set answers on."""
+        """Where a part is damaged, or the server refuses it, the old set answers on."""
         both = Revisions(self.folder)
         self.publish(both.folders[0])
         part = next(f for f in os.listdir(both.folders[1]) if f not in os.listdir(both.folders[0]))
         with open(os.path.join(both.folders[1], part), "ab") as out:
             out.write(b"no element\n")
+        with self.assertRaisesRegex(BadCall, "damaged, since the digest isn't the manifest's"):
+            self.publish(both.folders[1])
+        manifest = os.path.join(both.folders[1], MANIFEST)
+        with open(out.name, "rb") as dump, open(manifest, encoding="utf-8") as file:
+            digest, text = content_digest(dump.read()), file.read()
+        (before,) = {own for own in re.findall("[0-9a-f]{64}", text) if own[:16] in part}
+        with open(manifest, "w", encoding="utf-8") as file:
+            file.write(text.replace(before, digest))
         with self.assertRaisesRegex(NoReply, "L02 not JSON"):
             self.publish(both.folders[1])
         self.assertEqual(both.answering(self.url), 0)

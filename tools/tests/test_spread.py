@@ -7,7 +7,6 @@ import multiprocessing
 import os
 import random
 import tempfile
-import time
 import unittest
 from contextlib import redirect_stderr, redirect_stdout
 from typing import Any, Callable, Optional
@@ -21,8 +20,8 @@ from codenav.limits import MOST_ELEMENTS
 from codenav.program import Program, Running, free_port
 from codenav.progress import Quiet
 from codenav.sets.manifest import PartEntry
-from codenav.sets.publish.claim import Claim, Late, claimed
-from codenav.sets.publish.publish import Publish, remove_set
+from codenav.sets.publish.base import remove_set
+from codenav.sets.publish.publish import Publish
 from codenav.sets.publish.spread import Spread
 from codenav.sets.publish.store import Store
 from codenav.sets.ring import home_of, shard_of
@@ -147,7 +146,7 @@ class Homes(OnServers):
         letters = "abcdefghijklmnopqrstuvwxyz0123456789_-"
         names = ["".join(rng.choices(letters, k=rng.randrange(1, 48))) for _ in range(60)]
         for name in names[:20]:
-            names += [f"{name}-{end}" for end in ("parts", "claim", "0123456789abcdef")]
+            names += [f"{name}-{end}" for end in ("parts", "0123456789abcdef")]
         for name in names:
             body = b"x\ta.c\t1\n"
             status = self.front.ask("PUT", f"/projects/{name}/tags?key=k", body)[0]
@@ -227,7 +226,7 @@ class Published(TwoSets):
         server, and nothing is left."""
         self.spread(self.folders[0]).run()
         self.assertEqual(self.answering(), 0)
-        # a home has the parts, the manifest and the claim, and of the other set its surface
+        # a home has the parts, the manifest, and of the other set its surface
         counts = self.counts()
         for number in (0, 1, 0):
             self.spread(self.folders[number]).run()
@@ -252,7 +251,7 @@ class Published(TwoSets):
         self.spread(self.folders[0]).run()
         counts = self.counts()
         Publish(Store(self.servers[2]), self.folders[1]).run()
-        self.assertEqual(self.counts()[2], counts[2] + 4)
+        self.assertEqual(self.counts()[2], counts[2] + 3)
         self.spread(self.folders[1]).run()
         self.assertEqual((self.answering(), self.counts()), (1, counts))
 
@@ -277,29 +276,6 @@ class Published(TwoSets):
         self.assertEqual(child.exitcode, 0)
         self.assertEqual(switched, sorted(switched))
         self.assertEqual(set(switched), {0, 1})
-
-    def test_clocks(self) -> None:
-        """A claim of another machine whose clock goes otherwise is respected up to a quarter of an
-        hour, and taken over beyond; who was taken over ends with one line, and nothing is lost."""
-        home, now = Store(self.servers[0]), time.time()
-        self.spread(self.folders[0]).run()
-        for at, (ahead, is_respected) in enumerate(
-            [(0, True), (600, True), (-600, True), (86400, False), (-86400, False)]
-        ):
-            claim = Claim(home, self.name)
-            with self.subTest(ahead), mock.patch("socket.gethostname", lambda: "another"):
-                with mock.patch("time.time", lambda: now + ahead):
-                    claim.take()
-            publish = self.spread(self.folders[at % 2])
-            if is_respected:
-                with self.assertRaisesRegex(Late, f"another publish of {self.name} is under way"):
-                    publish.run()
-                claim.put("free")
-                continue
-            publish.run()
-            self.assertEqual(self.answering(), at % 2)
-            with self.assertRaisesRegex(Late, f"another publish of {self.name} has taken over"):
-                claim.renew(always=True)
 
     def publish_and_die(self, at: int, is_made: bool) -> None:
         """Publishes in a process that ends at a change, as if it were killed."""
@@ -360,7 +336,7 @@ class Called(OnServers):
         homes = [
             {name for name in self.on(server) if "surface" not in name} for server in self.servers
         ]
-        self.assertEqual([len(home) for home in homes], [3, 3, 0])
+        self.assertEqual([len(home) for home in homes], [2, 2, 0])
         found = asked_at(self.front.url, user).query(
             "references",
             {"uri": "file:///src/tr/user/src/lib.rs", "line": 4, "character": 24},
@@ -405,14 +381,14 @@ class Called(OnServers):
         code, user = self.name_at(self.servers[0], "code"), self.name_at(self.servers[1], "user")
         words = ["--servers", ",".join(self.servers), "--servers-that-join"]
         self.assertEqual(self.publish(code, "crate", *words)[0], 0)
-        self.assertEqual([len(self.on(server)) for server in self.servers], [3, 0, 0])
+        self.assertEqual([len(self.on(server)) for server in self.servers], [2, 0, 0])
         status, _, warned = self.publish(user, "user", *words)
         self.assertEqual(status, 0, warned)
         line = f"codenav publish: publish {code} again: it's joined to {user}, and its surface isn't at {self.servers[1]}"
         self.assertIn(line, warned.splitlines())
         status, _, warned = self.publish(code, "crate", *words)
         self.assertEqual((status, "again" in warned), (0, False))
-        self.assertEqual([len(self.on(server)) for server in self.servers], [4, 4, 0])
+        self.assertEqual([len(self.on(server)) for server in self.servers], [3, 3, 0])
 
     def test_refused(self) -> None:
         """What can't be is one line, and nothing is on any server."""
@@ -431,7 +407,7 @@ class Called(OnServers):
             self.assertEqual((status, said), (2, ""), warned)
             self.assertRegex(warned.splitlines()[-1], f"^codenav publish: .*{line}")
             left = {project for server in self.servers for project in self.on(server)}
-            self.assertLessEqual(left, {f"{name}-claim"})
+            self.assertEqual(left, set())
         status, _, warned = self.publish(name, "crate", "--servers-that-join")
         self.assertEqual((status, warned.count("\n")), (2, 1), warned)
         self.assertRegex(warned, "^codenav publish: --servers-that-join takes --servers")
@@ -440,16 +416,12 @@ class Called(OnServers):
         self.assertEqual((status, warned.count("\n")), (2, 1), warned)
         self.assertRegex(warned, "user/.codenav.toml: the values of servers are texts")
 
-    def test_of_one_name(self) -> None:
-        """While a publish is under way another one of that name is refused in one line; a surface
-        whose set is gone is shown under the set's name, as before."""
+    def test_gone(self) -> None:
+        """A surface whose set is gone isn't shown, and is when the set is there again."""
         code, user = self.name_at(self.servers[0], "code"), self.name_at(self.servers[1], "user")
         folders = {
             name: self.made(name, crate(of), "w") for name, of in ((code, "crate"), (user, "user"))
         }
-        with claimed(Store(self.servers[0]), code):
-            with self.assertRaisesRegex(Late, f"another publish of {code} is under way"):
-                self.spread(folders[code]).run()
         for folder in folders.values():
             self.spread(folder).run()
         self.assertEqual(remove_set(Store(self.servers[0]), code), 2)
@@ -458,7 +430,7 @@ class Called(OnServers):
             {"uri": "file:///src/tr/user/src/lib.rs", "line": 4, "character": 24},
             "places",
         )
-        self.assertEqual([place["project"] for place in found], [code, user])
+        self.assertEqual([place["project"] for place in found], [user])
         self.spread(folders[code]).run()
         found = asked_at(self.front.url, user).query(
             "definition",

@@ -1,15 +1,41 @@
 """How a call of a tool ends."""
 
+import io
 import os
 import signal
 import sys
-from typing import Callable, NoReturn
+from typing import Any, Callable, NoReturn
 
 from codenav.faults import Fault
 from codenav.files import STANDARD_OUTPUT, of_file
 from codenav.printed import line
 
 CLOSED_PIPE = 128 + signal.SIGPIPE
+
+
+class Unfailing(io.FileIO):
+    """The standard error, where what can't be said is dropped: a call ends as it would with it."""
+
+    def write(self, body: Any) -> int:
+        """Writes a part of a body, or drops it."""
+        try:
+            return super().write(body) or 0
+        except OSError:
+            return memoryview(body).nbytes
+
+
+def open_standard() -> None:
+    """Has what isn't there of the standard input, output and error be there, so that no file takes
+    its number: a call that reads or writes it meets a fault."""
+    for number, flags in enumerate((os.O_WRONLY, os.O_RDONLY, os.O_WRONLY)):
+        try:
+            os.fstat(number)
+        except OSError:
+            os.open(os.devnull, flags)
+    sys.stdin = sys.stdin or open(0, encoding="utf-8", closefd=False)
+    sys.stdout = sys.stdout or open(1, "w", encoding="utf-8", closefd=False)
+    error = io.BufferedWriter(Unfailing(2, "w", closefd=False))
+    sys.stderr = io.TextIOWrapper(error, "utf-8", "backslashreplace", write_through=True)
 
 
 class Signalled(BaseException):

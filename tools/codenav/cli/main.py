@@ -8,7 +8,7 @@ import sys
 from typing import TYPE_CHECKING, Any, NamedTuple, NoReturn, Optional, cast
 
 from codenav import VERSION
-from codenav.cli.ends import raise_signal, status_of
+from codenav.cli.ends import open_standard, raise_signal, status_of
 
 if TYPE_CHECKING:
     from codenav.cli.command import Command
@@ -113,6 +113,7 @@ def ended() -> int:
 def run() -> NoReturn:
     """Calls the word of the command line, and ends the process: at once, and not after Python has
     freed all its modules, which takes longer than a question."""
+    open_standard()
     signal.signal(signal.SIGTERM, raise_signal)
     status = status_of("codenav", ended)
     sys.stderr.flush()

@@ -8,10 +8,10 @@ from codenav.cli.command import Command
 from codenav.cli.options import add_retry, add_server
 from codenav.client.http import address, found_in, request_again
 from codenav.client.projects import listed, removed
-from codenav.names import SET, server_of, stored_name
+from codenav.names import PARTS, SET, own_project, server_of, stored_name
 from codenav.sets.listed import by_names
-from codenav.sets.manifest import ABOUT, PARTS
-from codenav.sets.publish.publish import remove_set
+from codenav.sets.manifest import ABOUT
+from codenav.sets.publish.base import remove_set
 from codenav.sets.publish.store import Store
 from codenav.settings.found import name_of
 
@@ -70,7 +70,7 @@ def removed_set(server: str, name: str, retry: bool) -> int:
 def remove(call: RemoveCall) -> int:
     """Removes what has a name, a project or a set, and says whether there was something."""
     server, shown = server_of(call.url), name_of(call.project)
-    name = stored_name(shown)
+    name = own_project(stored_name(shown))
     was_project = removed(server, name, call.retry)
     parts = removed_set(server, name, call.retry)
     was_there = was_project or parts > 0

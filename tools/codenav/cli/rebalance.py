@@ -12,7 +12,7 @@ from codenav.cli.publish import servers_in
 from codenav.cli.show import Shown
 from codenav.faults import BadCall, NoReply
 from codenav.names import server_of
-from codenav.sets.publish.rebalance import GRACE, Lists, Relocation, rebalance
+from codenav.sets.publish.rebalance import Lists, Relocation, rebalance
 from codenav.sets.ring import named_in_front, servers_of
 
 TOOL = "codenav rebalance"
@@ -33,7 +33,6 @@ class RebalanceCall:
     servers_before: str = ""
     servers_that_join: bool = False
     switch: str = ""
-    grace: float = GRACE
     words: Sequence[str] = ()
 
 
@@ -46,12 +45,6 @@ def add_rebalance(parser: argparse.ArgumentParser) -> None:
         "--servers-that-join",
         action="store_true",
         help="the surface of a set goes to those of the servers alone that have a set which imports or exports something of one of its packages",
-    )
-    parser.add_argument(
-        "--grace",
-        type=float,
-        metavar="SECONDS",
-        help=f"remove so long after the switch, for requests that are under way; {GRACE:g} without it",
     )
     add_words(
         parser, "[URL] FOLDER", f"{URL_HELP}. FOLDER is where `publish --keep` left sets, or above"
@@ -96,7 +89,7 @@ def finished(call: RebalanceCall, work: Relocation) -> int:
             print(f"switch {work.front.server} to these servers, and call again")
             return 0
         work.switch(call.switch)
-    cleared = work.clear(call.grace)
+    cleared = work.clear()
     print(f"moved {cleared.moved}, removed {cleared.removed}")
     return 0
 

@@ -14,7 +14,7 @@ from codenav.client.projects import fresh_key, once_key
 from codenav.dumps.dump import HEAD_BYTES, is_index, profile_in
 from codenav.dumps.packed import GZIP, ZSTD, opened
 from codenav.faults import BadCall, NoReply
-from codenav.names import key_of, project_of, server_of, shown_name
+from codenav.names import key_of, new_project, server_of, shown_name
 from codenav.publishing.made import Body
 from codenav.publishing.send import put_body
 from codenav.sets.publish.publish import Publish
@@ -34,7 +34,6 @@ class UploadCall:
     once: bool = False
     profile: Optional[str] = None
     revision: Optional[str] = None
-    grace: float = 0.0
     words: Sequence[str] = ()
 
 
@@ -57,12 +56,6 @@ def add_upload(parser: argparse.ArgumentParser) -> None:
         "--revision",
         metavar="REV",
         help="the git revision that was indexed, in the checkout of the call: its commit is said, by which to ask where files changed since",
-    )
-    parser.add_argument(
-        "--grace",
-        type=float,
-        metavar="SECONDS",
-        help="of a set: leave the parts of before so long after the switch",
     )
     add_words(
         parser,
@@ -117,7 +110,7 @@ def upload_files(call: UploadCall, server: str, project: str, paths: list[str]) 
     commit, fault = indexed_at(os.curdir, call.revision) if call.revision else ("", "")
     status = 0
     for path in paths:
-        status = status or upload_file(call, server, project_of(project), path)
+        status = status or upload_file(call, server, new_project(project), path)
     if commit and not status:
         line = (
             f"the index is of revision {commit}: where files changed ask with --revision {commit}"
@@ -129,7 +122,7 @@ def upload_files(call: UploadCall, server: str, project: str, paths: list[str]) 
 
 def upload_set(call: UploadCall, server: str, folder: str) -> int:
     """Publishes the set in a folder, and prints what was done."""
-    publish = Publish(Store(server), folder, call.grace)
+    publish = Publish(Store(server), folder)
     try:
         print(publish.run().line())
     except NoReply as fault:

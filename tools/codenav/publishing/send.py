@@ -15,7 +15,8 @@ from codenav.outcome import Excess
 from codenav.progress import Quiet, Shows
 from codenav.publishing.made import Body, Made, Refused
 from codenav.publishing.target import Target
-from codenav.sets.publish.publish import Publish, Report, remove_set
+from codenav.sets.publish.base import remove_set
+from codenav.sets.publish.publish import Publish, Report
 from codenav.sets.publish.spread import Spread
 from codenav.sets.publish.store import Store
 

@@ -4,7 +4,7 @@ from dataclasses import dataclass
 
 from codenav.client.http import address, found_in, request_again
 from codenav.faults import BadCall
-from codenav.names import project_of, server_of, set_name, stored_name
+from codenav.names import new_project, server_of, set_name, stored_name
 from codenav.sets.ring import home_of, named_in_front
 from codenav.sets.surface.made import surface_name
 
@@ -57,5 +57,5 @@ def target_at(
     if is_set or target.is_set:
         set_name(project)
     else:
-        project_of(project)
+        new_project(project)
     return target

@@ -3,21 +3,23 @@
 import os
 import re
 from contextlib import contextmanager
-from typing import Iterator, Sequence
+from functools import partial
+from typing import Callable, Iterator, Sequence
 from urllib.parse import quote
 
 from codenav.addresses import serialized
 from codenav.faults import BadCall
 from codenav.files import whole_file
+from codenav.names import PARTS
 from codenav.sets.manifest import (
     ABOUT,
     DOCUMENT,
-    PARTS,
     DocumentEntry,
     Head,
     ListEntry,
     NotAManifest,
     Tag,
+    content_digest,
     document_lines,
     fields_of,
     head_lines,
@@ -42,11 +44,12 @@ def tags_in(path: str) -> list[Tag]:
         raise NotAManifest(f"{path} isn't the manifest of a set") from None
 
 
-def read_head(path: str) -> Head:
-    """The head that a manifest's file has; raises NotAManifest."""
+def read_head(path: str, with_old: bool = False) -> Head:
+    """The head that a manifest's file has; `with_old` takes one of the format of before too. Raises
+    NotAManifest."""
     about = [tag for tag in tags_in(path) if tag["name"][:1] == ABOUT]
     names = [tag["file"] for tag in about if tag["name"] == f"{ABOUT}set"]
-    head = head_of(about, f"{names[0] if names else ''}{PARTS}")
+    head = head_of(about, f"{names[0] if names else ''}{PARTS}", with_old)
     if head is None:
         raise NotAManifest(f"{path} isn't the manifest of a set")
     return head
@@ -100,21 +103,29 @@ def put_file(path: str, body: bytes) -> None:
         out.write(body)
 
 
+def manifest_of(
+    head: Head, documents: Sequence[DocumentEntry], named: Callable[[str], str]
+) -> tuple[Head, dict[str, bytes], bytes]:
+    """A manifest: its head, the lists of documents by their projects, where they are too many for
+    one file, and the manifest itself. `named` says the project of a list by its digest."""
+    if not needs_lists(len(documents), len(head.parts)):
+        return head, {}, tags_text([*head_lines(head), *document_lines(documents)])
+    lists, bodies = [], {}
+    for first, body in listed(documents):
+        digest = content_digest(body)
+        lists.append(ListEntry(named(digest), first, digest))
+        bodies[lists[-1].project] = body
+    head = head._replace(lists=tuple(lists))
+    return head, bodies, tags_text(head_lines(head))
+
+
 def put_manifest(folder: str, head: Head, documents: Sequence[DocumentEntry]) -> Head:
-    """Writes the manifest, and before it lists of documents where they are too many for one
-    file."""
-    lines: list[str] = []
-    if needs_lists(len(documents), len(head.parts)):
-        lists = []
-        for first, body in listed(documents):
-            project = part_name(head.name, body)
-            put_file(os.path.join(folder, f"{project}.tags"), body)
-            lists.append(ListEntry(project, first))
-        head = head._replace(lists=tuple(lists))
-    else:
-        lines = document_lines(documents)
-    put_file(os.path.join(folder, MANIFEST), tags_text([*head_lines(head), *lines]))
-    return head
+    """Writes the manifest, and before it its lists of documents."""
+    made, lists, body = manifest_of(head, documents, partial(part_name, head.name))
+    for project, own in lists.items():
+        put_file(os.path.join(folder, f"{project}.tags"), own)
+    put_file(os.path.join(folder, MANIFEST), body)
+    return made
 
 
 def drop_others(folder: str, name: str, projects: Sequence[str]) -> None:

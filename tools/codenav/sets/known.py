@@ -13,18 +13,8 @@ from typing import Iterator, Optional
 
 from codenav.client.fetch import Fetch
 from codenav.faults import NoReply
-from codenav.names import BRANCH, base_name, shown_name
-from codenav.sets.manifest import (
-    ABOUT,
-    CLAIM,
-    PART,
-    PARTS,
-    SURFACE,
-    Head,
-    NotAManifest,
-    head_of,
-    mark_in,
-)
+from codenav.names import BRANCH, PART, PARTS, base_name, shown_name
+from codenav.sets.manifest import ABOUT, SURFACE, Head, NotAManifest, head_of, mark_in
 
 BRIEF = 5.0
 AWAY_SECONDS = 60.0
@@ -45,7 +35,6 @@ class Sets:
         self.heads: dict[str, Optional[Head]] = {}
         self.marks: dict[str, Optional[str]] = {}
         self.projects: dict[str, set[str]] = {}
-        self.claims: dict[str, bool] = {}
         self.away: dict[str, float] = {}
         self.read: set[str] = set()
 
@@ -71,15 +60,6 @@ class Sets:
                 self.heads[name] = None
                 return None
 
-    def is_claimed(self, name: str, fetch: Fetch) -> bool:
-        """Whether a set that has no manifest is under way: published for the first time or removed,
-        or that broke off. Raises NoReply."""
-        if name not in self.claims:
-            own = {"name": f"{ABOUT}claim", "project": name + CLAIM}
-            self.read.add(name)
-            self.claims[name] = bool(fetch("/names", own, "tags"))
-        return self.claims[name]
-
     @contextmanager
     def soon(self, name: str) -> Iterator[None]:
         """Raises Away where a set's server doesn't answer, which isn't tried again at once."""
@@ -96,7 +76,6 @@ class Sets:
         self.heads.pop(name, None)
         self.marks.pop(name, None)
         self.projects.pop(name, None)
-        self.claims.pop(name, None)
 
     def forget_none(self) -> None:
         """Forgets which sets have no manifest."""
@@ -110,9 +89,8 @@ class Sets:
         if name not in self.marks:
             return self.head(name, fetch) is not None
         own = {"name": f"{ABOUT}set", "project": name + PARTS}
-        before = self.marks[name], self.claims.pop(name, None)
         mark = mark_in(fetch("/names", own, "tags"))
-        if before == (mark, None if before[1] is None else self.is_claimed(name, fetch)):
+        if mark == self.marks[name]:
             return False
         self.forget(name)
         if mark is not None:
@@ -143,10 +121,10 @@ class Sets:
 
     def owner(self, project: str, used: set[str]) -> Optional[str]:
         """The set that has a project as a part, or as one of its surface, or the project itself
-        where it's of none; None where it's a part that no manifest names. The sets whose manifests
+        where it hasn't the name of one; None where no manifest names it. The sets whose manifests
         say so are added to `used`.
 
-        Where the set's server is away, or has lost it, it's that of the project's name.
+        Where the set's server is away, it's that of the project's name.
         """
         match = PART.fullmatch(project)
         if match is None:
@@ -160,15 +138,9 @@ class Sets:
                 used.add(one)
                 if project in self.projects.get(one, ()):
                     return one
-            if any(self.heads[one] for one in sets):
-                return None
-            for one in sets:
-                with self.soon(one):
-                    if self.is_claimed(one, self.brief):
-                        return None
         except Away:
             return whole
-        return project if whole == name else whole
+        return None
 
     def shown(
         self, projects: set[str], asked: str, is_set: bool
@@ -179,7 +151,7 @@ class Sets:
         used: set[str] = set()
         for project in sorted(projects):
             read: set[str] = set()
-            own = self.owner(project, read)
+            own = self.owner(project, read) or (project if project == asked else None)
             if own in (None, asked, project) or not is_beside(str(own), asked):
                 used |= read
                 owners.update({} if own is None else {project: own})

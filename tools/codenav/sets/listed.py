@@ -3,8 +3,8 @@
 from collections import Counter
 from typing import Any, Iterable
 
-from codenav.names import shown_name
-from codenav.sets.manifest import CLAIM, PART, PARTS, SURFACE
+from codenav.names import PART, PARTS, shown_name
+from codenav.sets.manifest import SURFACE
 
 
 def set_of(project: str) -> str:
@@ -24,7 +24,7 @@ def by_names(projects: Iterable[dict[str, Any]]) -> list[tuple[str, str]]:
         elif name.endswith(SURFACE):
             shown = shown_name(name.removesuffix(SURFACE))
             sets[name] = shown, f"the surface of a set elsewhere, parts {count}"
-    own = {name + end for name in sets for end in (PARTS, CLAIM)}
+    own = {name + PARTS for name in sets}
     rows = [
         (name, " and ".join(part for part in ("dump", "tags") if one.get(part)))
         for name, one in listed.items()

@@ -3,14 +3,15 @@ tags file of the project `NAME-parts`.
 
 Its names begin with a control character, so that no search for names finds them by chance:
 
-- U+0002 and `set`: the set, with the format, the revision, the folder of its documents, the tool
-  that made it and a mark of its own;
-- U+0002 and `part`: a part, with its elements and the address of its first document;
+- U+0002 and `set`: the set, with the format, the version, the revision, the folder of its documents,
+  the tool that made it and a mark of its own;
+- U+0002 and `part`: a part, with its elements, the address of its first document and the digest of
+  its content;
 - U+0002 and `surface`: a part of the set's surface, which is on other servers, as a part is said;
 - U+0002 and `package`: where the set is one of several servers', a package that it imports or
   exports something of;
 - U+0002 and `list`: where the documents are too many for one tags file, a project with some of
-  them, with the address of the first;
+  them, with the address of the first and a digest;
 - U+0001 and an address: a document, with the part that has it and a digest of its text.
 
 The file of each tag is the project that it names.
@@ -19,11 +20,12 @@ The file of each tag is the project that it names.
 import hashlib
 import re
 from bisect import bisect_right
-from typing import Any, Iterable, Iterator, NamedTuple, Optional, Sequence
+from typing import Any, Iterable, Iterator, Mapping, NamedTuple, Optional, Sequence
 
 from codenav.faults import BadCall
+from codenav.names import PART, PARTS, shown_name
 
-FORMAT = "1"
+FORMAT, OLD_FORMAT = "2", "1"
 TOOL = "codenav-split-lsif-1"
 SORTED = "!_TAG_FILE_SORTED\t1\t/0=unsorted, 1=sorted/\n"
 DOCUMENT, ABOUT = "\x01", "\x02"
@@ -31,9 +33,6 @@ PACKAGE = f"{ABOUT}package"
 MOST_LINES = 99_000
 DIGITS = 16
 LIST_LINES = 20_000
-PART = re.compile(r"(?P<set>[a-z0-9_-]{1,47})-[0-9a-f]{16}")
-PARTS = "-parts"
-CLAIM = "-claim"
 SURFACE = "-surface"
 Tag = dict[str, Any]
 
@@ -43,11 +42,13 @@ class NotAManifest(BadCall):
 
 
 class PartEntry(NamedTuple):
-    """A part: its project, how many elements it has, and the address of its first document."""
+    """A part: its project, how many elements it has, the address of its first document, and the
+    digest of its content."""
 
     project: str
     elements: int
     first: str
+    digest: str = ""
 
 
 class DocumentEntry(NamedTuple):
@@ -60,10 +61,12 @@ class DocumentEntry(NamedTuple):
 
 
 class ListEntry(NamedTuple):
-    """A project with documents of a manifest, and the address of the first."""
+    """A project with documents of a manifest, the address of the first, and the digest of its
+    content."""
 
     project: str
     first: str
+    digest: str = ""
 
 
 class Head(NamedTuple):
@@ -81,6 +84,7 @@ class Head(NamedTuple):
     lists: tuple[ListEntry, ...] = ()
     surface: tuple[PartEntry, ...] = ()
     packages: tuple[str, ...] = ()
+    version: int = 0
 
     def projects(self) -> list[str]:
         """The projects of the set but for its manifest."""
@@ -104,16 +108,44 @@ class Head(NamedTuple):
         """The projects whose tags have the documents."""
         return [one.project for one in self.lists] or [self.name + PARTS]
 
-    def with_mark(self, mark: str) -> "Head":
-        """The same with a mark."""
-        return self._replace(mark=mark)
+    def names(self) -> dict[str, str]:
+        """The projects of the parts, the lists and the surface by the digests of their contents."""
+        every: list[PartEntry | ListEntry] = [*self.parts, *self.lists, *self.surface]
+        return {one.digest: one.project for one in every if one.digest}
+
+    def digests(self) -> dict[str, str]:
+        """The digests of the contents by their projects."""
+        return {project: digest for digest, project in self.names().items()}
+
+    def with_names(self, names: Mapping[str, str]) -> "Head":
+        """The same with other projects, by the digests of their contents."""
+        parts, surface = (
+            tuple(part._replace(project=names.get(part.digest, part.project)) for part in own)
+            for own in (self.parts, self.surface)
+        )
+        return self._replace(parts=parts, surface=surface)
 
 
-def part_name(name: str, body: bytes, profile: str = "1", tags: bytes = b"") -> str:
-    """The project of a part of a set with this dump, which is read in a profile, and these tags."""
+def is_same(one: Optional[Head], other: Optional[Head]) -> bool:
+    """Whether two manifests are of the same contents of the same revision."""
+    contents = [
+        head._replace(mark="", version=0, lists=()).with_names(dict.fromkeys(head.names(), ""))
+        for head in (one, other)
+        if head is not None
+    ]
+    return len(contents) == 2 and contents[0] == contents[1]
+
+
+def content_digest(body: bytes, profile: str = "1", tags: bytes = b"") -> str:
+    """The digest of the content of a part: a dump, which is read in a profile, and tags."""
     digest = hashlib.sha256(b"" if profile == "1" else f"profile {profile}\n".encode())
     digest.update(body + tags)
-    return f"{name}-{digest.hexdigest()[:DIGITS]}"
+    return digest.hexdigest()
+
+
+def part_name(name: str, digest: str) -> str:
+    """What a part of a set is called in a folder, by the digest of its content."""
+    return f"{name}-{digest[:DIGITS]}"
 
 
 def escaped(text: str) -> str:
@@ -136,6 +168,7 @@ def head_lines(head: Head) -> list[str]:
     """The lines on a set, its parts and its lists."""
     about = [
         ("format", FORMAT),
+        ("version", str(head.version)),
         ("revision", head.revision),
         ("folder", head.folder),
         ("documents", str(head.documents)),
@@ -147,9 +180,13 @@ def head_lines(head: Head) -> list[str]:
     for kind, parts in ("part", head.parts), ("surface", head.surface):
         for part in parts:
             fields = [("elements", str(part.elements)), ("first", part.first)]
+            fields.append(("digest", part.digest))
             lines.append(line_of(f"{ABOUT}{kind}", part.project, fields))
     lines += [line_of(PACKAGE, head.name, [("package", package)]) for package in head.packages]
-    lines += [line_of(f"{ABOUT}list", one.project, [("first", one.first)]) for one in head.lists]
+    lines += [
+        line_of(f"{ABOUT}list", one.project, [("first", one.first), ("digest", one.digest)])
+        for one in head.lists
+    ]
     return lines
 
 
@@ -200,15 +237,16 @@ def package_of(tag: Tag) -> str:
 def part_entries(tags: Iterable[Tag], kind: str) -> list[PartEntry]:
     """The parts of a kind, `part` or `surface`, that tags say; raises KeyError and ValueError."""
     return [
-        PartEntry(tag["file"], int(fields_of(tag)["elements"]), fields_of(tag).get("first", ""))
+        PartEntry(tag["file"], int(own["elements"]), own.get("first", ""), own.get("digest", ""))
         for tag in tags
         if tag["name"] == f"{ABOUT}{kind}"
+        for own in [fields_of(tag)]
     ]
 
 
-def head_of(tags: Iterable[Tag], project: str) -> Optional[Head]:
-    """The head that tags of a project `NAME-parts` say, or None where there is no tag; raises
-    NotAManifest."""
+def head_of(tags: Iterable[Tag], project: str, with_old: bool = False) -> Optional[Head]:
+    """The head that tags of a project `NAME-parts` say, or None where there is no tag; `with_old`
+    takes one of the format of before too. Raises NotAManifest."""
     name = project.removesuffix(PARTS)
     found = list(tags)
     if not found:
@@ -221,9 +259,10 @@ def head_of(tags: Iterable[Tag], project: str) -> Optional[Head]:
             for kind in ("part", "surface")
         )
         lists = [
-            ListEntry(tag["file"], fields_of(tag)["first"])
+            ListEntry(tag["file"], own["first"], own.get("digest", ""))
             for tag in found
             if tag["name"] == f"{ABOUT}list"
+            for own in [fields_of(tag)]
         ]
         lists.sort(key=lambda one: one.first.encode())
         packages = sorted(map(package_of, filter(is_package, found)))
@@ -231,17 +270,21 @@ def head_of(tags: Iterable[Tag], project: str) -> Optional[Head]:
             fields.get(key, "") for key in ("revision", "folder", "tool", "mark")
         )
         count, profile = int(fields["documents"]), fields.get("profile", "1")
+        version, own_format = int(fields.get("version", "0")), fields["format"]
         about_it = name, revision, folder, count, tool, mark, profile
-        head = Head(*about_it, parts, tuple(lists), surface, tuple(packages))
+        head = Head(*about_it, parts, tuple(lists), surface, tuple(packages), version)
     except (KeyError, IndexError, TypeError, ValueError):
         raise NotAManifest(
             f"{project} isn't the manifest of a set: somebody else wrote it"
         ) from None
     own = {match["set"] for match in map(PART.fullmatch, head.projects()) if match is not None}
-    if len(about) != 1 or fields["format"] != FORMAT or about[0]["file"] != name or own - {name}:
+    is_own = len(about) == 1 and about[0]["file"] == name and own <= {name}
+    is_own = is_own and len(set(head.projects())) == len(head.projects())
+    if not is_own or not own and head.projects() or own_format not in (FORMAT, OLD_FORMAT):
         raise NotAManifest(f"{project} is a manifest of another set, or of another format")
-    if len(set(head.projects())) < len(head.projects()) or not own and head.projects():
-        raise NotAManifest(f"{project} is a manifest of another set, or of another format")
+    if own_format == OLD_FORMAT and not with_old:
+        text = "was made by an older version of these tools: publish it again"
+        raise NotAManifest(f"the set {shown_name(name)} {text}")
     return head
 
 

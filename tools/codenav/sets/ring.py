@@ -16,7 +16,7 @@ from codenav.faults import BadCall
 from codenav.names import server_of
 
 POINTS = 160
-OF_A_SET = re.compile(r"(.+)-(?:[0-9a-f]{16}|parts|claim)")
+OF_A_SET = re.compile(r"(.+)-(?:[0-9a-f]{16}|parts)")
 
 
 def shard_of(project: str) -> str:

@@ -194,7 +194,9 @@ class Today:
         place = (line, character) if text_map is None else text_map.backward(line, character)
         if place is None:
             where = f"{shown(path)}:{line + 1}"
-            raise NotThere(f"{where}: this word isn't in the text that was indexed ({label})")
+            raise NotThere(
+                f"{where}: nothing in the text that was indexed is surely this word ({label})"
+            )
         is_same = text_map is None or text_map.is_same
         return IndexPlace(uri_of(old, self.maps), *place, "" if is_same else label, fault)
 

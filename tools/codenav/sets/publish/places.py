@@ -8,7 +8,8 @@ from contextlib import contextmanager
 from typing import Any, Iterable, Iterator, Optional
 
 from codenav.faults import NoReply
-from codenav.sets.manifest import ABOUT, PARTS, SURFACE, Head, NotAManifest, Tag, head_of
+from codenav.names import PARTS
+from codenav.sets.manifest import ABOUT, SURFACE, Head, NotAManifest, Tag, head_of
 from codenav.sets.publish.store import Store
 from codenav.sets.ring import shard_of
 
@@ -66,8 +67,8 @@ class Place(Store):
         self.there.setdefault(project, set()).add(part)
         self.of_sets.setdefault(self.set_of(project), set()).add(project)
 
-    def remove(self, project: str) -> None:
-        super().remove(project)
+    def remove(self, project: str, key: str = "") -> None:
+        super().remove(project, key)
         self.there.pop(project, None)
         self.of_sets[self.set_of(project)].discard(project)
 
@@ -88,11 +89,6 @@ class Place(Store):
             is_named = str(fault).startswith(self.server)
             raise NoReply(str(fault) if is_named else f"{self.server}{path}: {fault}") from None
 
-    def known(self, name: str) -> str:
-        """The mark of the manifest of a set as it was found, empty where there was none."""
-        return self.heads[name].mark if name in self.heads else ""
-
-
-def is_same(one: Optional[Head], other: Optional[Head]) -> bool:
-    """Whether two manifests are of the same parts of the same revision."""
-    return one is not None and other is not None and one.with_mark("") == other.with_mark("")
+    def known(self, name: str) -> Optional[str]:
+        """The mark of the manifest of a set as it was found, or None where there was none."""
+        return self.heads[name].mark if name in self.heads else None

@@ -1,58 +1,42 @@
 """Puts a set that was split on a server: the parts that it doesn't have, then the manifest, then it
-removes the parts of before.
+removes what isn't named any more.
 
-Whoever asks meanwhile is answered from the old set, and from the one put of the manifest on from
-the new one. A publish that ends before leaves the old set answering, and the next one removes what
-it left. One publish of a set goes on at a time: it holds a claim, which others see.
+Whoever asks meanwhile is answered from the old set, and from the one put of the manifest on from the
+new one. A publish may stop at any point, for as long as it may, and any number may go on at a time:
+the first one whose manifest comes acts, and the others find that it was faster.
 """
 
 import os
 import secrets
-import time
 from dataclasses import dataclass, field
-from typing import Iterable, Mapping, Optional, Sequence
+from typing import Mapping
 
-from codenav.faults import BadCall
-from codenav.names import shown_name
-from codenav.sets.files import MANIFEST, files_of, put_file, read_head, with_head
+from codenav.faults import BadCall, NoReply
+from codenav.names import PARTS, shown_name
+from codenav.sets.files import MANIFEST, files_of, manifest_of, put_file, read_documents, read_head
 from codenav.sets.manifest import (
-    CLAIM,
     DOCUMENT,
-    PART,
-    PARTS,
     DocumentEntry,
     Head,
     NotAManifest,
+    content_digest,
     document_lines,
     fields_of,
     head_lines,
     tags_text,
 )
-from codenav.sets.publish.claim import MOST_LIVES, Claim, Late, after, claimed
+from codenav.sets.publish.base import Base, Late, read_base
 from codenav.sets.publish.store import Store
 
-Files = dict[str, str]
+Files = Mapping[str, str]
 """The files of a project: its dump, its tags or both."""
-
-
-def content_of(path: str) -> bytes:
-    """The bytes of a file."""
-    with open(path, "rb") as file:
-        return file.read()
-
-
-def parts_of(name: str, projects: Iterable[str]) -> list[str]:
-    """The projects that have the form of a set's parts."""
-    found = {project: PART.fullmatch(project) for project in sorted(projects)}
-    return [project for project, match in found.items() if match and match["set"] == name]
-
-
-def remove_all(claim: Claim, store: Store, projects: Sequence[str]) -> int:
-    """Removes projects from a server; answers how many."""
-    for project in projects:
-        claim.renew()
-        store.remove(project)
-    return len(projects)
+There = dict[str, set[str]]
+"""The projects of a server, each with the parts that it has."""
+NO_ROOM = ("S01", "S02")
+TRIES = 5
+LOOKED_AT = 50
+"""After so many parts it's looked whether another publish was faster."""
+CROWD = 4
 
 
 @dataclass
@@ -71,115 +55,227 @@ class Report:
 
 
 @dataclass
+class Plan:
+    """A set as it's put for a base: its head, the manifest, the files of its parts and the bodies
+    of its lists, by their names."""
+
+    base: Base
+    head: Head
+    body: bytes
+    files: dict[str, Files]
+    lists: dict[str, bytes]
+
+    def lacks(self, there: There) -> bool:
+        """Whether a server hasn't all of it."""
+        return any(
+            not files.keys() <= there.get(own, set()) for own, files in self.files.items()
+        ) or (not self.lists.keys() <= there.keys())
+
+    def others(self, there: There) -> int:
+        """How much is there that was put for its base and isn't its own."""
+        own = self.head.digests()
+        return sum(self.base.is_own(project) and project not in own for project in there)
+
+    def is_crowded(self, there: There) -> bool:
+        """Whether that's much more than is its own."""
+        return self.others(there) > CROWD * len(self.head.digests())
+
+
+@dataclass
 class Publish:
     """A publish of the set in a folder to a server."""
 
     store: Store
     folder: str
-    grace: float = 0.0
     in_place_of_project: bool = False
     report: Report = field(default_factory=Report)
     is_switched: bool = False
+    has_made_room: bool = False
+    mark: str = ""
 
     def __post_init__(self) -> None:
-        self.head = read_head(os.path.join(self.folder, MANIFEST))
-        self.files = {project: files_of(self.folder, project) for project in self.head.projects()}
-        self.mark = secrets.token_hex(16)
+        path = os.path.join(self.folder, MANIFEST)
+        self.head = read_head(path)
+        self.files = {own.project: files_of(self.folder, own.project) for own in self.head.parts}
+        self.documents = read_documents(path, self.head)
 
     def run(self) -> Report:
         """Publishes the set; raises NoReply, Late or NotAManifest where it can't, and then the old
         set answers on."""
-        with claimed(self.store, self.head.name) as claim:
-            old = self.store.head(self.head.name)
-            if claim.taken_over and old is not None:
-                old = self.settle(old)
-            there = self.store.projects()
-            self.refuse_others(there, old)
-            self.remove_left(claim, there, old)
-            self.put_parts(claim, there)
-            claim.renew(always=True)
-            self.put_manifest(old)
-            self.put_parts(claim, self.store.projects())
-            if self.grace:
-                time.sleep(self.grace)
-            self.remove_old(claim, old)
+        for left in reversed(range(TRIES)):
+            try:
+                if self.is_done():
+                    break
+            except NotAManifest:
+                # one that came between the reading and the list is looked at again
+                if not left:
+                    raise
+        else:
+            text = "was published again and again, and parts of it are gone"
+            raise BadCall(f"the set {shown_name(self.head.name)} {text}")
         self.report.parts = len(self.head.projects())
-        self.report.kept = self.report.parts - self.report.new
+        self.report.kept = max(self.report.parts - self.report.new, 0)
         return self.report
 
-    def refuse_others(self, there: dict[str, set[str]], old: Optional[Head]) -> None:
+    def is_done(self) -> bool:
+        """Publishes the set for what is there now; answers whether all that is named is there
+        then."""
+        base = read_base(self.store, self.head.name)
+        there = self.listed()
+        self.refuse_others(base, there[self.store])
+        plan = self.planned(base, there[self.store])
+        if not self.has_made_room and plan.is_crowded(there[self.store]):
+            self.make_room(plan, there[self.store])
+            return False
+        try:
+            self.put_parts(plan, there)
+            self.put_manifest(plan)
+        except Late:
+            self.sweep()
+            raise
+        except NoReply as fault:
+            has_room = not any(f"{code} " in str(fault) for code in NO_ROOM)
+            if has_room or self.has_made_room or not self.make_room(plan, there[self.store]):
+                raise
+            return False
+        return not plan.lacks(self.sweep())
+
+    def listed(self) -> dict[Store, There]:
+        """The projects of the servers."""
+        return {self.store: self.store.projects()}
+
+    def refuse_others(self, base: Base, there: There) -> None:
         """Refuses what stands in the set's place on the server and isn't a set: a manifest that
         somebody else wrote, or a project of its name."""
-        name = self.head.name
-        if old is None and name + PARTS in there:
-            raise NotAManifest(f"{name}{PARTS} isn't the manifest of a set: somebody else wrote it")
-        if name in there and not self.in_place_of_project:
+        if base.head is None and base.name + PARTS in there:
+            text = "isn't the manifest of a set: somebody else wrote it"
+            raise NotAManifest(f"{base.name}{PARTS} {text}")
+        if base.name in there and not self.in_place_of_project:
             raise BadCall(
-                f"a project {name} is on the server, which is asked in the set's place: `codenav remove` removes it"
+                f"a project {base.name} is on the server, which is asked in the set's place: `codenav remove` removes it"
             )
 
-    def settle(self, old: Head) -> Head:
-        """Puts the manifest that is there again, so that the one that an interrupted publish may
-        still put comes too late; answers what is there then."""
-        documents = [
-            DocumentEntry(tag["name"][len(DOCUMENT) :], tag["file"], fields_of(tag).get("text", ""))
-            for tag in ([] if old.lists else self.store.tags(old.name + PARTS, DOCUMENT))
-        ]
-        lines = [*head_lines(old.with_mark(self.mark)), *document_lines(documents)]
-        self.store.put(old.name + PARTS, "tags", tags_text(lines), after(old.mark))
-        self.mark = secrets.token_hex(16)
-        return self.store.head(old.name) or old
+    def known_names(self, base: Base) -> Mapping[str, str]:
+        """The names of contents that are kept, by their digests."""
+        return base.head.names() if base.head else {}
 
-    def remove_left(self, claim: Claim, there: dict[str, set[str]], old: Optional[Head]) -> None:
-        """Removes parts of neither revision, which an interrupted publish left."""
-        wanted = {*self.head.projects(), *(old.projects() if old else [])}
-        left = [project for project in parts_of(self.head.name, there) if project not in wanted]
-        self.report.removed += remove_all(claim, self.store, left)
+    def next_version(self, base: Base) -> int:
+        """The number of the next manifest."""
+        return base.version + 1
 
-    def put_parts(self, claim: Claim, there: dict[str, set[str]]) -> None:
-        """Puts the parts that aren't there."""
-        self.report.new += self.put_files(claim, self.store, self.files, there)
+    def planned(self, base: Base, there: There) -> Plan:
+        """The set as it's put for a base where this is there: a content keeps its name where that
+        is there, and has a new one of the base else."""
+        known, taken = self.known_names(base), dict[str, str]()
 
-    def put_files(
-        self, claim: Claim, store: Store, files: Mapping[str, Files], there: dict[str, set[str]]
-    ) -> int:
-        """Puts the files of projects that a server hasn't; answers of how many projects."""
-        count = 0
+        def named(of_set: str, digest: str, parts: set[str]) -> str:
+            found = known.get(digest)
+            if found is None or not parts <= there.get(found, set()):
+                found = base.named(of_set, digest, taken)
+            taken[found] = digest
+            return found
+
+        names = {
+            own.digest: named(base.name, own.digest, set(self.files[own.project]))
+            for own in self.head.parts
+        }
+        for own in self.head.surface:
+            names[own.digest] = named(own.project.rpartition("-")[0], own.digest, set())
+        projects = {own.project: names[own.digest] for own in self.head.parts}
+        mark, version = secrets.token_hex(16), self.next_version(base)
+        head = self.head.with_names(names)._replace(lists=(), mark=mark, version=version)
+        documents = [own._replace(project=projects[own.project]) for own in self.documents]
+        made = manifest_of(head, documents, lambda digest: named(base.name, digest, {"tags"}))
+        files: dict[str, Files] = {projects[one]: own for one, own in self.files.items()}
+        return Plan(base, made[0], made[2], files, made[1])
+
+    def put_parts(self, plan: Plan, there: Mapping[Store, There]) -> None:
+        """Puts what isn't there."""
+        own = there[self.store]
+        self.report.new += self.put_files(plan, self.store, plan.files, own)
+        for project in sorted(plan.lists.keys() - own.keys()):
+            self.store.put(project, "tags", plan.lists[project], secrets.token_hex(16))
+            self.report.new += 1
+
+    def put_files(self, plan: Plan, store: Store, files: Mapping[str, Files], there: There) -> int:
+        """Puts the files of projects that a server hasn't; answers of how many projects. Raises
+        Late where another publish was faster."""
+        count, digests = 0, plan.head.digests()
         for project, own in files.items():
             missing = [part for part in own if part not in there.get(project, ())]
-            bodies = self.bodies_of(project, own) if missing else {}
+            bodies = self.bodies_of(own, digests[project]) if missing else {}
             for part in missing:
-                claim.renew()
                 profile = self.head.profile if part == "lsif" else "1"
                 store.put(project, part, bodies[part], secrets.token_hex(16), profile)
             count += bool(missing)
+            if (
+                missing
+                and count % LOOKED_AT == 0
+                and self.store.mark(plan.base.name) != plan.base.mark
+            ):
+                raise Late(plan.base.name)
         return count
 
-    def bodies_of(self, project: str, files: Files) -> dict[str, bytes]:
-        """What the files of a part have."""
-        return {part: content_of(path) for part, path in files.items()}
+    def bodies_of(self, files: Files, digest: str) -> dict[str, bytes]:
+        """What the files of a part have; raises BadCall where that isn't of the digest."""
+        bodies = {}
+        for part, path in files.items():
+            with open(path, "rb") as file:
+                bodies[part] = file.read()
+        lsif, tags = (bodies.get(part, b"") for part in ("lsif", "tags"))
+        if digest != content_digest(lsif, self.head.profile if lsif else "1", tags):
+            raise BadCall(
+                f"{', '.join(files.values())}: damaged, since the digest isn't the manifest's"
+            )
+        return bodies
 
-    def put_manifest(self, old: Optional[Head]) -> None:
-        """Puts the manifest, which is the switch; raises Late where another one came after the old
-        one."""
-        path, name = os.path.join(self.folder, MANIFEST), self.head.name
-        body = with_head(path, self.head.with_mark(self.mark))
-        for life in range(MOST_LIVES):
-            self.store.put(name + PARTS, "tags", body, after(old.mark if old else "", life))
-            now = self.store.head(name)
-            if now is not None or old is not None:
-                break
-        if now is None or now.mark != self.mark:
-            raise Late(f"another publish of {shown_name(name)} was faster")
-        self.is_switched = True
+    def put_manifest(self, plan: Plan) -> None:
+        """Puts the manifest, which is the switch; raises Late where another one came before."""
+        name = plan.base.name
+        self.store.put(name + PARTS, "tags", plan.body, plan.base.key)
+        if self.store.mark(name) != plan.head.mark:
+            raise Late(name)
+        self.is_switched, self.mark = True, plan.head.mark
 
-    def remove_old(self, claim: Claim, old: Optional[Head]) -> None:
-        """Removes the parts of the old set that the new one hasn't."""
-        before = set(old.projects() if old else ())
-        if self.in_place_of_project and self.head.name in self.store.projects():
-            self.store.remove(self.head.name)
-        left = sorted(before - set(self.head.projects()))
-        self.report.removed += remove_all(claim, self.store, left)
+    def make_room(self, plan: Plan, there: There) -> bool:
+        """Removes what other publishes left at the home; answers whether there was something."""
+        self.has_made_room, before = True, self.report.removed
+        if plan.others(there):
+            self.fence(plan.base)
+        self.sweep()
+        return self.report.removed > before
+
+    def fence(self, base: Base) -> None:
+        """Has the manifest that is there be another one, so that what was put to follow it can't be
+        named any more."""
+        name = base.name + PARTS
+        if base.head is None:
+            self.store.remove(name, base.key)
+        else:
+            documents = [
+                DocumentEntry(tag["name"][1:], tag["file"], fields_of(tag).get("text", ""))
+                for tag in self.store.tags(name, DOCUMENT)
+            ]
+            head = base.head._replace(mark=secrets.token_hex(16), version=base.version + 1)
+            body = tags_text([*head_lines(head), *document_lines(documents)])
+            self.store.put(name, "tags", body, base.key)
+
+    def sweep(self) -> There:
+        """Removes what can't be named any more; answers what is there of the set's home."""
+        listed = self.listed()
+        base = read_base(self.store, self.head.name)
+        for store, there in listed.items():
+            self.sweep_at(store, there, base)
+        return listed[self.store]
+
+    def sweep_at(self, store: Store, there: There, base: Base) -> None:
+        """The same of one server, of which this was listed before the base was read."""
+        todo = base.garbage(there, [base.name], base.names())
+        for project in todo:
+            store.remove(project)
+        self.report.removed += len(todo)
+        if self.in_place_of_project and self.is_switched and base.name in there:
+            store.remove(base.name)
 
 
 def fetch_cuts(store: Store, name: str, folder: str) -> None:
@@ -190,16 +286,3 @@ def fetch_cuts(store: Store, name: str, folder: str) -> None:
     if head is not None:
         os.makedirs(folder, exist_ok=True)
         put_file(path, tags_text(head_lines(head)))
-
-
-def remove_set(store: Store, name: str) -> int:
-    """Removes a set, its manifest first, and what interrupted publishes left of it; answers how many
-    parts it had."""
-    head = store.head(name)
-    if head is None:
-        return 0
-    with claimed(store, name) as claim:
-        store.remove(name + PARTS)
-        remove_all(claim, store, parts_of(name, store.projects()))
-    store.remove(name + CLAIM)
-    return len(head.parts)

@@ -21,16 +21,15 @@ from codenav.faults import BadCall, NoReply
 from codenav.names import shown_name
 from codenav.progress import Shows
 from codenav.sets.known import BRIEF, Sets
-from codenav.sets.manifest import SURFACE, Head
+from codenav.sets.manifest import SURFACE, Head, is_same
 from codenav.sets.publish.kept import Kept, kept_sets
 from codenav.sets.publish.moving import STEPS, Moving
-from codenav.sets.publish.places import Place, is_same
+from codenav.sets.publish.places import Place
 from codenav.sets.publish.store import Store
 from codenav.sets.ring import Ring, named_in_front
 
 SWITCH_SECONDS = 60
 PAUSE = 0.2
-GRACE = 10.0
 Done = dict[str, set[str]]
 
 
@@ -128,9 +127,9 @@ class Relocation:
         if kept is None:
             self.refuse_unkept(name, home)
             return
-        self.refuse_other_revision(name, home, kept)
+        asked, joined = self.refuse_other_revision(name, home, kept), self.joined(kept.head)
         self.moving.append(
-            Moving(home, kept.folder, places=self.places, joined=self.joined(kept.head))
+            Moving(home, kept.folder, places=self.places, asked=asked, joined=joined)
         )
 
     def refuse_unkept(self, name: str, home: Place) -> None:
@@ -155,12 +154,12 @@ class Relocation:
                 f"{shown}: no folder below {self.folder} has it: publish it again with --keep"
             )
 
-    def refuse_other_revision(self, name: str, home: Place, kept: Kept) -> None:
-        """Refuses a set that is kept as it isn't answered."""
+    def refuse_other_revision(self, name: str, home: Place, kept: Kept) -> Optional[Place]:
+        """Refuses a set that is kept as it isn't answered; answers the server that is asked."""
         holders, shown = self.holders(name), shown_name(name)
         asked = self.asked(name, holders)
         if asked is None:
-            return
+            return None
         own = asked.heads[name]
         if not is_same(own, kept.head):
             raise BadCall(
@@ -172,6 +171,7 @@ class Relocation:
                 raise BadCall(
                     f"{shown}: {place.server} has another revision{of_revision(place.heads[name])} than {home.server}, which is asked: publish it again"
                 )
+        return asked
 
     def asked(self, name: str, holders: list[Place]) -> Optional[Place]:
         """The server with the manifest that is asked; None where no server has one."""
@@ -213,8 +213,8 @@ class Relocation:
         for at, moving in enumerate(todo):
             self.shows.at(at)
             try:
-                with moving.held() as claim:
-                    step(moving, claim)
+                moving.refuse_changed()
+                step(moving)
                 names.add(moving.head.name)
             except NoReply:
                 raise
@@ -251,21 +251,18 @@ class Relocation:
                 raise BadCall(f"after {command} {self.front.server} isn't switched: call again")
             time.sleep(PAUSE)
 
-    def clear(self, grace: float) -> Cleared:
-        """Removes what is left where sets were, so many seconds after the switch where a set has
-        moved."""
+    def clear(self) -> Cleared:
+        """Removes what is left where sets were."""
         moved = sum(moving.has_moved() for moving in self.moving)
-        if moved:
-            time.sleep(grace)
         self.shows.begin("removed what was left")
         count = sum(moving.clear() for moving in self.moving)
         self.shows.end(f"{count} projects")
         return Cleared(moved, count)
 
 
-def mark_of(head: Optional[Head]) -> str:
-    """The mark of a manifest, empty where there is none."""
-    return head.mark if head else ""
+def mark_of(head: Optional[Head]) -> Optional[str]:
+    """The mark of a manifest, or None where there is none."""
+    return head.mark if head else None
 
 
 def of_revision(head: Head) -> str:

@@ -6,19 +6,21 @@ is shown those that the manifest names. After it the old ones are removed. A pub
 before leaves the old revision answering everywhere, and the next one removes what it left.
 """
 
-import re
+import secrets
 from contextlib import contextmanager
 from dataclasses import dataclass, field
-from typing import Iterator, Optional
+from typing import Iterator, Mapping, Optional
 
 from codenav.faults import BadCall, NoReply
-from codenav.sets.manifest import CLAIM, PACKAGE, PARTS, SURFACE, Head, package_of
-from codenav.sets.publish.claim import Claim
-from codenav.sets.publish.publish import Publish, remove_all
+from codenav.names import PARTS
+from codenav.sets.manifest import PACKAGE, SURFACE, package_of
+from codenav.sets.publish.base import Base, remove_left, remove_set
+from codenav.sets.publish.publish import Files, Plan, Publish, There
 from codenav.sets.publish.store import Store
+from codenav.sets.ring import shard_of
 from codenav.sets.surface.made import surface_file
 
-DIGITS = "-[0-9a-f]{16}"
+NEVER_PUT = "-ffffffffffffffff"
 
 
 @dataclass
@@ -37,81 +39,105 @@ class Spread(Publish):
     only_joined: bool = False
     done: list[str] = field(default_factory=list)
     lacking: list[str] = field(default_factory=list)
+    joined_at: dict[Store, set[str]] = field(default_factory=dict)
 
-    def put_parts(self, claim: Claim, there: dict[str, set[str]]) -> None:
-        """Puts the parts at the home, and those of the surface on the other servers."""
-        self.refuse_another_home(claim)
+    def listed(self) -> dict[Store, There]:
+        found = {}
+        for store in (self.store, *self.others):
+            with self.told(store):
+                found[store] = store.projects()
+        return found
+
+    def put_parts(self, plan: Plan, there: Mapping[Store, There]) -> None:
+        self.refuse_another_home(plan.base.name)
         with self.told(self.store):
-            super().put_parts(claim, there)
+            super().put_parts(plan, there)
+        self.note_done(self.store)
         for store in self.others:
             with self.told(store):
-                self.put_surface(claim, store)
+                self.put_surface(plan, store, there[store])
+            self.note_done(store)
 
-    def refuse_another_home(self, claim: Claim) -> None:
-        """Refuses to go on where the front sends the set to another server than the one that has
-        the claim."""
+    def refuse_another_home(self, name: str) -> None:
+        """Refuses to go on where the front sends the set to another server than its home: a key that
+        is used up at the home, by the removal of what is never there, is used by the front too."""
         if self.front is None:
             return
-        record = Claim(self.front, claim.name).record()
-        if record.get("mark") != claim.mark:
+        key = secrets.token_hex(16)
+        self.store.remove(name + NEVER_PUT, key)
+        if not self.front.is_used(name + NEVER_PUT, key):
             raise BadCall(
-                f"{self.front.server} sends {claim.name} to another server than {self.store.server}: "
+                f"{self.front.server} sends {name} to another server than {self.store.server}: "
                 "--servers has to name those of the front's configuration, spelled as there"
             )
 
     def joined_sets(self, store: Store) -> set[str]:
         """The other sets at a server that have a package in common with this one."""
-        tags = store.found("/names", {"name": PACKAGE}, "tags")
-        own = set(self.head.packages)
-        found = {tag["project"].removesuffix(PARTS) for tag in tags if package_of(tag) in own}
-        return found - {self.head.name}
+        if store not in self.joined_at:
+            tags = store.found("/names", {"name": PACKAGE}, "tags")
+            own = set(self.head.packages)
+            found = {tag["project"].removesuffix(PARTS) for tag in tags if package_of(tag) in own}
+            self.joined_at[store] = found - {self.head.name}
+        return self.joined_at[store]
 
-    def wanted(self, store: Store) -> list[str]:
-        """The projects of the surface that a server is to have."""
-        is_wanted = not self.only_joined or self.joined_sets(store)
-        return self.head.surface_projects() if is_wanted else []
+    def is_wanted(self, store: Store) -> bool:
+        """Whether a server is to have the surface."""
+        return store is not self.store and (not self.only_joined or bool(self.joined_sets(store)))
 
-    def note_lacking(self) -> None:
+    def note_lacking(self, there: There) -> None:
         """Notes the sets elsewhere whose surfaces the home should have and hasn't."""
-        there = self.store.projects()
         for store in self.others if self.only_joined else []:
             for name in sorted(self.joined_sets(store)):
                 head = store.head(name)
                 if head is not None and not set(head.surface_projects()) <= there.keys():
                     self.lacking.append(name)
 
-    def put_surface(self, claim: Claim, store: Store) -> None:
+    def surface_files(self, plan: Plan) -> dict[str, Files]:
+        """The files of the parts of the surface, by their names."""
+        paths = {own.digest: surface_file(self.surface, own.project) for own in self.head.surface}
+        return {own.project: {"lsif": paths[own.digest]} for own in plan.head.surface}
+
+    def put_surface(self, plan: Plan, store: Store, there: There) -> None:
         """Puts the parts of the surface that a server is to have and hasn't."""
-        there = store.projects()
-        files = {own: {"lsif": surface_file(self.surface, own)} for own in self.wanted(store)}
-        self.put_files(claim, store, files, there)
+        if self.is_wanted(store):
+            self.put_files(plan, store, self.surface_files(plan), there)
 
-    def remove_old(self, claim: Claim, old: Optional[Head]) -> None:
-        """Removes the old parts at the home, and those of the surface that aren't wanted on each
-        server."""
+    def sweep(self) -> There:
         self.done.clear()
-        with self.told(self.store):
-            super().remove_old(claim, old)
-            self.remove_others(claim, self.store, SURFACE + DIGITS, [])
-        # where the front was asked it's sure that the set itself is nowhere else any more
-        ends = f"({SURFACE})?{DIGITS}|{PARTS}|{CLAIM}" if self.front else SURFACE + DIGITS
-        for store in self.others:
-            with self.told(store):
-                self.remove_others(claim, store, ends, self.wanted(store))
-        self.note_lacking()
+        there = super().sweep()
+        if self.is_switched:
+            self.lacking.clear()
+            self.note_lacking(there)
+        return there
 
-    def remove_others(self, claim: Claim, store: Store, ends: str, wanted: list[str]) -> None:
-        """Removes the projects of the set with these ends from a server, but for some."""
-        form = re.compile(f"{re.escape(self.head.name)}({ends})")
-        left = [
-            one for one in sorted(store.projects()) if form.fullmatch(one) and one not in wanted
-        ]
-        remove_all(claim, store, left)
+    def sweep_at(self, store: Store, there: There, base: Base) -> None:
+        """Removes what can't be named any more, and after the switch the surface where it isn't
+        wanted; and where the front was asked, so that it's sure that the set itself is nowhere
+        else, what is left of it."""
+        with self.told(store):
+            if store is self.store:
+                super().sweep_at(store, there, base)
+            named = set(base.head.surface_projects() if base.head else ())
+            todo = base.garbage(there, [base.name + SURFACE], named)
+            if base.mark == self.mark and not self.is_wanted(store):
+                todo += sorted(named & there.keys())
+            for project in todo:
+                store.remove(project)
+            is_elsewhere = store is not self.store and self.front is not None
+            if is_elsewhere and any(shard_of(one) == base.name for one in there):
+                remove_set(store, base.name)
+                remove_left(store, base.name)
+        self.note_done(store)
+
+    def note_done(self, store: Store) -> None:
+        """Notes that a server is done."""
+        if store.server not in self.done:
+            self.done.append(store.server)
 
     @contextmanager
     def told(self, store: Store) -> Iterator[None]:
-        """Notes that a server is done; a fault of one says which are, and that the next publish
-        goes on from there."""
+        """Has a fault of a server say which ones are done, and that the next publish goes on from
+        there."""
         try:
             yield
         except NoReply as fault:
@@ -121,5 +147,3 @@ class Spread(Publish):
             raise NoReply(
                 f"{where}{fault}; servers done: {done}; the set is {state}, publish again"
             ) from None
-        if store.server not in self.done:
-            self.done.append(store.server)

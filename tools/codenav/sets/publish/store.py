@@ -1,13 +1,15 @@
 """The requests of a publish to a server."""
 
 import io
+import re
 import secrets
 from contextlib import contextmanager
 from typing import Any, Iterator, Optional
 
 from codenav.client.http import address, found_in, refusal_of, request, request_again
 from codenav.faults import NoReply
-from codenav.sets.manifest import ABOUT, PARTS, Head, head_of
+from codenav.names import PARTS
+from codenav.sets.manifest import ABOUT, Head, head_of, mark_in
 
 
 class Store:
@@ -33,9 +35,21 @@ class Store:
         parameters = {"key": key, **({"profile": profile} if profile != "1" else {})}
         self.change("PUT", f"/projects/{project}/{part}", parameters, body)
 
-    def remove(self, project: str) -> None:
-        """Removes a project."""
-        self.change("DELETE", f"/projects/{project}", {"key": secrets.token_hex(16)}, b"")
+    def remove(self, project: str, key: str = "") -> None:
+        """Removes a project, under a key of its own where none is given."""
+        own = {"key": key or secrets.token_hex(16)}
+        self.change("DELETE", f"/projects/{project}", own, b"")
+
+    def is_used(self, project: str, key: str) -> bool:
+        """Whether a key was used for a project: a faulty body under it is answered as before then,
+        and otherwise refused, and nothing is kept."""
+        try:
+            self.change("PUT", f"/projects/{project}/tags", {"key": key}, b"?")
+        except NoReply as fault:
+            if not re.search(r"\bT04 ", str(fault)):
+                raise
+            return False
+        return True
 
     def projects(self) -> dict[str, set[str]]:
         """The projects of the server, each with the parts that it has: `lsif`, `tags`."""
@@ -61,5 +75,10 @@ class Store:
         return list(self.found("/names", {"prefix": prefix, "project": project}, "tags"))
 
     def head(self, name: str) -> Optional[Head]:
-        """What the manifest of a set says, or None where there is none; raises NotAManifest."""
-        return head_of(self.tags(name + PARTS, ABOUT), name + PARTS)
+        """What the manifest of a set says, of the format of before too, or None where there is
+        none; raises NotAManifest."""
+        return head_of(self.tags(name + PARTS, ABOUT), name + PARTS, with_old=True)
+
+    def mark(self, name: str) -> Optional[str]:
+        """The mark of the manifest of a set, or None where there is none."""
+        return mark_in(self.tags(name + PARTS, f"{ABOUT}set"))

@@ -227,7 +227,7 @@ def split(
 def split_given(given: Given, options: SplitOptions, folder: str, shows: Shows) -> SetFiles:
     """Splits what is given."""
     old = os.path.join(folder, MANIFEST)
-    before = [part.first for part in read_head(old).parts] if os.path.exists(old) else None
+    before = [part.first for part in read_head(old, True).parts] if os.path.exists(old) else None
     cut, elements, reading, left_out = plan_of(given, options, before)
     firsts = [cut.flat.uris[first] for first in cut.cuts[:-1]]
     tags = CutTags([b""] * cut.parts)
@@ -253,7 +253,7 @@ def put_head(cut: Cut, written: Sequence[Written], options: SplitOptions, folder
     """Writes the manifest; answers what it says."""
     documents = documents_of(cut, written, maps_of([*options.maps]))
     parts = tuple(
-        PartEntry(part.project, part.elements, cut.flat.uris[first])
+        PartEntry(part.project, part.elements, cut.flat.uris[first], part.digest)
         for part, first in zip(written, cut.cuts)
     )
     where, count = "; ".join(options.maps), len(documents)

@@ -13,7 +13,7 @@ from codenav.faults import Fault, Unfit
 from codenav.limits import MOST_LINE_BYTES
 from codenav.program import end_with_parent
 from codenav.sets.files import put_file
-from codenav.sets.manifest import part_name
+from codenav.sets.manifest import content_digest, part_name
 from codenav.sets.split.crossing import Cut
 from codenav.sets.split.lines import Lines
 from codenav.sets.split.part import Part
@@ -25,10 +25,12 @@ PARTS_EACH = 4
 
 @dataclass(frozen=True)
 class Written:
-    """A part that was written: its project, and how many elements it has."""
+    """A part that was written: its project, how many elements it has, and the digest of its
+    content."""
 
     project: str
     elements: int
+    digest: str
 
 
 @dataclass
@@ -51,12 +53,13 @@ class Writer:
         if max(map(len, lines.lines)) * 4 > MOST_LINE_BYTES:
             refuse_long_lines(lines.lines)
         tags = self.tags[part]
-        project = part_name(self.name, body, self.profile, tags)
+        digest = content_digest(body, self.profile, tags)
+        project = part_name(self.name, digest)
         for kind, content in (("lsif", body), ("tags", tags)):
             path = os.path.join(self.folder, f"{project}.{kind}")
             if content and not os.path.exists(path):
                 put_file(path, content)
-        return Written(project, lines.count)
+        return Written(project, lines.count, digest)
 
     def write_all(self, processes: int) -> Iterator[Written]:
         """Writes all parts, in as many processes side by side, and answers them in order."""

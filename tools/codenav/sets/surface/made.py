@@ -5,10 +5,9 @@ from typing import NamedTuple
 
 from codenav.faults import BadCall
 from codenav.limits import MOST_ELEMENTS, excesses
-from codenav.names import set_name
 from codenav.progress import Shows
 from codenav.sets.files import MANIFEST, put_file, read_head, with_head
-from codenav.sets.manifest import SURFACE, PartEntry, part_name
+from codenav.sets.manifest import SURFACE, PartEntry, content_digest, part_name
 from codenav.sets.split.split import SplitOptions, split, uncollected
 from codenav.sets.surface.surface import write_surface
 
@@ -26,7 +25,7 @@ def surface_name(name: str) -> str:
         raise BadCall(
             f"on several servers a set's name has at most {MOST_NAME} characters, not {name!r}"
         )
-    return set_name(name + SURFACE)
+    return name + SURFACE
 
 
 class SurfaceFiles(NamedTuple):
@@ -57,9 +56,10 @@ def made_surface(
         parts = split(whole, options, folder, shows).head.parts
     elif surface.bearers:
         with open(whole, "rb") as file:
-            project = part_name(surface_name(name), file.read(), profile)
+            digest = content_digest(file.read(), profile)
+        project = part_name(surface_name(name), digest)
         os.replace(whole, surface_file(folder, project))
-        parts = (PartEntry(project, count, ""),)
+        parts = (PartEntry(project, count, "", digest),)
     named = {surface_file(folder, part.project) for part in parts}
     for own in os.listdir(folder):
         path = os.path.join(folder, own)
