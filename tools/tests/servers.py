@@ -18,7 +18,7 @@ from codenav.program import Program, free_port
 from codenav.records import ADDRESS
 
 TOP = os.path.dirname(os.path.dirname(os.path.dirname(os.path.abspath(__file__))))
-SECONDS = 10
+SECONDS = 60
 NOT_BUILT = "the program isn't built, and CODENAV_PROGRAM names none"
 BUILT = os.path.join(TOP, BUILT_IN)
 STAND_IN = os.path.join(TOP, "tools", "tests", "stand_in.py")

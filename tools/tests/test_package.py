@@ -20,7 +20,7 @@ from codenav import VERSION
 from codenav.cli.main import OWN, TOOLS, main, usage
 from codenav.program import NONE, PACKAGED, PROVED
 from tests.packages import needs
-from tests.servers import BUILT, SECONDS, TOP, OnServer, built_program, command
+from tests.servers import BUILT, SECONDS, TOP, OnServer, command
 
 
 def files_of(folder: str) -> set[str]:
@@ -106,7 +106,7 @@ class OneCommand(unittest.TestCase):
                 self.assertEqual((status, said), (7, f"{word} --x y z\n"))
             # a script of the name may be these tools again
             os.rename(path, f"{folder}/codenav")
-            if built_program() != BUILT:
+            if not os.path.exists(BUILT):
                 status, _, warned = self.called("serve", CODENAV_PROGRAM="", PATH=folder)
                 self.assertEqual((status, warned), (2, f"codenav serve: {NONE}\n"))
         status, _, warned = self.called("serve", CODENAV_PROGRAM="/no/program")

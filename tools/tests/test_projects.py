@@ -27,7 +27,7 @@ ROWS: list[tuple[str, list[str]]] = [
     # projects, `+` with dumps and tags, `-` with tags alone, and what is listed
     ("", []),
     ("a+ b-", ["a: dump and tags", "b: tags"]),
-    (f"a-claim- a-{DIGITS}+ a-parts-", ["a-claim: tags", "a: a set, parts 1"]),
+    (f"a-claim- a-{DIGITS}+ a-parts-", ["a: a set, parts 1", "a-claim: tags"]),
     (f"a+ a-{DIGITS}+ a-parts-", ["a: a set, parts 1", "a: dump and tags"]),
     (f"a-{DIGITS}+ a-{DIGITS[::-1]}- a-parts-", ["a: a set, parts 2"]),
     (f"a--b-{DIGITS}+ a--b-parts- a-parts+", ["a-parts: dump and tags", "a@b: a set, parts 1"]),
@@ -73,7 +73,7 @@ class Lists(OnServer):
     def test_sets_are_removed_by_their_names(self) -> None:
         """With all that they have on the server, and nothing of another."""
         for name in "code", "code@next":
-            self.put(name.replace("@", "--"))
+            self.put(name)
         store = Store(self.url)
         for name in "app", "code-review", "car", "car-parts", "n" * 64:
             store.put(name, "tags", TAGS, f"k{name[:9]}")
@@ -85,7 +85,7 @@ class Lists(OnServer):
         )
         parts = [one for one in self.names() if one.startswith("code--next-")]
         rows: list[tuple[str, int, str, int]] = [
-            ("code@next", 0, f"code@next: removed, parts {len(parts) - 2}\n", len(parts)),
+            ("code@next", 0, f"code@next: removed, parts {len(parts) - 1}\n", len(parts)),
             ("code@next", 1, "code@next: has neither a dump nor tags\n", 0),
             ("car", 0, "car: removed\n", 1),
             ("n" * 64, 0, f"{'n' * 64}: removed\n", 1),
@@ -102,7 +102,7 @@ class Lists(OnServer):
     def test_words_without_a_server(self) -> None:
         """What has neither `:` nor `/` is a name, and is refused as such."""
         here = os.path.realpath(self.enterContext(tempfile.TemporaryDirectory()))
-        self.put("app--dev")
+        self.put("app@dev")
         capital = "a project is 1 to 64 characters of a-z 0-9 _ -, not 'App'"
         address = "not the address of a server, as http://127.0.0.1:8080: "
         rows: list[tuple[Any, list[str], str]] = [
