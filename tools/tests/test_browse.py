@@ -5,11 +5,12 @@ import http.client
 import io
 import json
 import os
+import re
 import tempfile
 import threading
 import unittest
-from contextlib import redirect_stderr
-from typing import Any, Optional
+from contextlib import contextmanager, redirect_stderr
+from typing import Any, Iterator, Optional
 from unittest import mock
 from urllib.parse import urlencode
 
@@ -44,6 +45,11 @@ TAG: dict[str, Any] = {
     "kind": "f",
     "line": 9,
 }
+
+
+def unlinked(body: str) -> str:
+    """A page without the links at the words of its text."""
+    return re.sub(r'<a href="\?[^"]*at=\d+\.\d+">(.*?)</a>', r"\1", body)
 
 
 class Served:
@@ -88,11 +94,17 @@ class Served:
     def asked(self, path: str, reply: Any, status: int = 200) -> tuple[int, Any, Optional[str]]:
         """The status and the answer to a question that the server answers so, and the address that
         the server was asked by; of a record of the revision it has none."""
+        with self.replies(reply, status) as asked:
+            code, body, _ = self.got(path)
+        return code, json.loads(body), asked[0] if asked else None
+
+    @contextmanager
+    def replies(self, reply: Any, status: int = 200) -> Iterator[list[str]]:
+        """The addresses that the server is asked by, which answers so."""
         answer = Answer("http://127.0.0.1:1", status, json.dumps(reply).encode())
         asked: list[str] = []
         with mock.patch.object(fetch, "request", replying(answer, asked)):
-            code, body, _ = self.got(path)
-        return code, json.loads(body), asked[0] if asked else None
+            yield asked
 
 
 class Browse(Served, unittest.TestCase):
@@ -134,7 +146,7 @@ class Browse(Served, unittest.TestCase):
                 "default-src 'none'; script-src 'self'", headers["Content-Security-Policy"]
             )
         status, body, headers = self.got("/files/src/a.rs")
-        self.assertIn("\nfn run() {}\n</div></div>", body)
+        self.assertIn("\nfn run() {}\n</div></div>", unlinked(body))
         self.assertIn('<a href="/files/src/a.rs" aria-current="page">a.rs</a>', body)
         self.assertEqual(
             (status, body.rstrip()[-7:], self.got("/files/src/a.rs", "HEAD")[:2]),
@@ -158,7 +170,7 @@ class Browse(Served, unittest.TestCase):
 
     def test_texts_and_names_are_escaped(self) -> None:
         body = self.got("/files/src/a.rs")[1]
-        self.assertIn('>// &lt;script&gt;alert(1)&lt;/script&gt; &amp; "x"\n', body)
+        self.assertIn('>// &lt;script&gt;alert(1)&lt;/script&gt; &amp; "x"\n', unlinked(body))
         self.assertEqual(body.count("<script"), 1 + body.count('<script type="application/json"'))
         self.assertIn(
             '<a href="/files/src/%3Cb%3E%20&amp;%20&#x27;c&#x27;.rs">&lt;b&gt; &amp; &#x27;c&#x27;.rs</a>',
@@ -328,16 +340,9 @@ class Browse(Served, unittest.TestCase):
         self.assertEqual(
             (own["text"][own["start"] : own["end"]], own["is_definition"]), ("run", True)
         )
-        with mock.patch.object(answers, "MOST_PLACES", 2):
-            answer = self.asked(path, {"places": places})[1]
-        self.assertEqual(
-            (answer["said"], len(answer["places"])),
-            ("5 references in 2 files, of which 2 are listed", 2),
-        )
-        self.assertEqual(
-            self.asked(path, {"places": []})[1],
-            {"places": [], "said": "The index has no references here."},
-        )
+        answer = self.asked(path, {"places": []})[1]
+        said = "The index has no references here."
+        self.assertEqual((answer["places"], answer["count"], answer["said"]), ([], 0, said))
 
     def test_a_definition_that_is_the_whole_file(self) -> None:
         path = "/ask?what=definition&path=src/a.rs&line=1&character=3"
@@ -610,8 +615,8 @@ class OfRevisions(Served, InRepository):
 
     def test_the_text_of_a_revision(self) -> None:
         body = self.got(f"/files/a.rs?revision={self.commit_name}")[1]
-        self.assertIn(">fn one() {}\nfn two()", body)
-        self.assertIn(f"as of {self.commit_name}", body)
+        self.assertIn(">fn one() {}\nfn two()", unlinked(body))
+        self.assertIn(f"as of {self.commit_name[:12]}", body)
         self.assertEqual(self.data(body, "unknown"), {"label": "", "lines": []})
         self.assertEqual(self.got("/files/a.rs?revision=none")[0], 404)
         self.assertEqual(self.got("/files/b.rs?revision=HEAD")[0], 404)
