@@ -12,7 +12,7 @@ import unittest
 from contextlib import contextmanager, redirect_stderr
 from typing import Any, Iterator, Optional
 from unittest import mock
-from urllib.parse import urlencode
+from urllib.parse import parse_qsl, urlencode, urlsplit
 
 from codenav.asking.tags import AWAY, GUESSED, SAID
 from codenav.browse import answers, folder, pages
@@ -50,6 +50,17 @@ TAG: dict[str, Any] = {
 def unlinked(body: str) -> str:
     """A page without the links at the words of its text."""
     return re.sub(r'<a href="\?[^"]*at=\d+\.\d+">(.*?)</a>', r"\1", body)
+
+
+def by_prefix(tags: list[dict[str, Any]]) -> Any:
+    """A server that has some tags, and answers those whose names begin with a text."""
+
+    def request(url: str, **_: Any) -> Answer:
+        prefix = dict(parse_qsl(urlsplit(url).query)).get("prefix", "")
+        found = [tag for tag in tags if tag["name"].startswith(prefix)]
+        return Answer(url, 200, json.dumps({"tags": found}).encode())
+
+    return request
 
 
 class Served:
@@ -453,6 +464,20 @@ class Browse(Served, unittest.TestCase):
         with mock.patch.object(answers, "MOST_NAMES", 2):
             for tags, said in (([TAG] * 2, "2 names"), ([TAG] * 3, "the first 2 names")):
                 self.assertEqual(self.asked("/names?prefix=r", {"tags": tags})[1]["said"], said)
+
+    def test_names_that_have_a_text(self) -> None:
+        """Anywhere and in any case; those that begin with it are first."""
+        tags = [
+            {**TAG, "name": name} for name in ("to_run", "Runner", "RUN", "other", "rerun", "run")
+        ]
+        for prefix, names in (
+            ("run", ["run", "RUN", "Runner", "rerun", "to_run"]),
+            ("_RUN", ["to_run"]),
+            ("none", []),
+        ):
+            with self.subTest(prefix), mock.patch.object(fetch, "request", by_prefix(tags)):
+                found = json.loads(self.got(f"/names?prefix={prefix}")[1])["names"]
+                self.assertEqual([row["name"] for row in found], names)
 
     def test_replies_that_are_none(self) -> None:
         place = {**PLACE, "uri": self.uri("src/a.rs")}

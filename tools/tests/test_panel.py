@@ -75,12 +75,13 @@ class Panel(Served, unittest.TestCase):
         """It leads on to a definition that is one alone, else to the word with its panel."""
         own, other = self.place("src/main.rs", 0, 3), self.place("src/many/f000.rs", 0, 0)
         away = {**PLACE, "uri": "file:///etc/passwd"}
-        for places, to in (
+        cases: list[tuple[list[dict[str, Any]], str]] = [
             ([own], "/files/src/main.rs#L1C4"),
             ([own, other], "/files/src/main.rs#L2C5&refs"),
             ([away], "/files/src/main.rs#L2C5&refs"),
             ([], "/files/src/main.rs#L2C5&refs"),
-        ):
+        ]
+        for places, to in cases:
             with self.subTest(to, places=len(places)), self.replies({"places": places}):
                 status, _, headers = self.got("/files/src/main.rs?at=2.5")
                 self.assertEqual((status, headers.get("Location")), (303, to))

@@ -96,7 +96,8 @@ class Browser:
         return href(name, at.line, at.character, view.revision) + "&refs"
 
     def names(self, parameters: Parameters) -> dict[str, Any]:
-        """The names that begin with a text, with the places of their tags in the folder."""
+        """The names that have a text, those that begin with it first, with the places of their
+        tags in the folder."""
         prefix = parameters.get("prefix", "")
         if not prefix or "\0" in prefix:
             raise Refused(400, "bad parameter")
@@ -118,9 +119,11 @@ class Browser:
         return {"names": rows, "said": said(many, notes, names.said(), "")}
 
     def named(self, view: View, prefix: str, names: Names) -> Iterator[tuple[Tag, Place]]:
-        """The tags whose names begin with a text, with their places in the folder."""
+        """The tags whose names have a text, with their places in the folder."""
         for project in self.settings.projects():
             tags = self.tags_of(view, project, prefix)
+            if len(tags) < MOST_NAMES:
+                tags = [*tags, *self.outlines_of(view, project).within(prefix)]
             files = {(tag["project"], tag["file"]): None for tag in tags}
             shown = {file for file in files if self.has(*file)}
             own = [tag for tag in tags if (tag["project"], tag["file"]) in shown]
@@ -132,6 +135,11 @@ class Browser:
     def tags_of(self, view: View, project: str, prefix: str) -> list[Tag]:
         """The tags of a project whose names begin with a text."""
         return view.workspace.project(self.settings, project).index.names({"prefix": prefix}, False)
+
+    def outlines_of(self, view: View, project: str) -> Outlines:
+        """The tags of a project that were read."""
+        made = Outlines(lambda prefix: self.tags_of(view, project, prefix))
+        return self.outlines.setdefault(project, made)
 
     def has(self, project: str, file: str) -> bool:
         """Whether the file of a tag is in the folder that is shown, if it's there at all."""
@@ -169,10 +177,7 @@ class Browser:
             inside = os.path.relpath(names.old_path(asked, project, path), folder)
             if inside.startswith(os.pardir):
                 continue
-            outlines = self.outlines.setdefault(
-                project, Outlines(lambda prefix, own=project: self.tags_of(view, own, prefix))  # type: ignore[misc]
-            )
-            tags = outlines.of(inside, text)
+            tags = self.outlines_of(view, project).of(inside, text)
             yield from names.places(asked, tags, self.settings.tags_folder)
 
     def files(self, parameters: Parameters) -> dict[str, Any]:

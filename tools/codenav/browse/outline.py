@@ -2,6 +2,7 @@
 alone, so it's asked for each letter that a word of the file begins with, once.
 """
 
+import string
 import time
 from collections import defaultdict
 from typing import Any, Callable
@@ -11,6 +12,7 @@ from codenav.texts.moved.tokens import TOKEN
 SECONDS = 300.0
 """For so long the tags stand that were read."""
 MOST = 1_000
+LETTERS = string.ascii_letters + "_"
 Tags = list[dict[str, Any]]
 
 
@@ -24,16 +26,38 @@ class Outlines:
 
     def of(self, file: str, text: str) -> Tags:
         """The tags of a file, whose text is given, by the name that tags have for it."""
-        letters = {word[0] for word in TOKEN.findall(text)}
-        for letter in sorted(letters):
-            if time.monotonic() - self.read_at.get(letter, -SECONDS) >= SECONDS:
-                self.read(letter)
-        found = [tag for letter in sorted(letters) for tag in self.tags[letter].get(file, [])]
+        letters = sorted({word[0] for word in TOKEN.findall(text)})
+        self.read(letters)
+        found = [tag for letter in letters for tag in self.tags[letter].get(file, [])]
         return found[:MOST]
 
-    def read(self, letter: str) -> None:
+    def within(self, text: str) -> Tags:
+        """The tags whose names have a text behind their beginning, or in other letters; those that
+        begin with it are first, then the short ones."""
+        low, letters = text.lower(), sorted({*LETTERS, text[0].lower(), text[0].upper()})
+        self.read(letters)
+        found = [
+            tag
+            for letter in letters
+            for tags in self.tags[letter].values()
+            for tag in tags
+            if low in tag["name"].lower() and not tag["name"].startswith(text)
+        ]
+        names = {tag["name"] for tag in found}
+        order = sorted(names, key=lambda name: (not name.lower().startswith(low), len(name), name))
+        rank = {name: number for number, name in enumerate(order)}
+        return sorted(found, key=lambda tag: rank[tag["name"]])[:MOST]
+
+    def read(self, letters: list[str]) -> None:
+        """Reads the tags whose names begin with some letters, as far as they aren't known."""
+        for letter in letters:
+            if time.monotonic() - self.read_at.get(letter, -SECONDS) >= SECONDS:
+                self.read_one(letter)
+
+    def read_one(self, letter: str) -> None:
         """Reads the tags whose names begin with a letter."""
         found: defaultdict[str, Tags] = defaultdict(list)
         for tag in self.names(letter):
-            found[tag["file"].removeprefix("./")].append(tag)
+            if tag["name"].startswith(letter):
+                found[tag["file"].removeprefix("./")].append(tag)
         self.tags[letter], self.read_at[letter] = dict(found), time.monotonic()

@@ -1,11 +1,12 @@
 // Asks at words of the file that is shown. Everything that comes from the index or the files is put in as text, never as HTML.
 
 import { openFinder } from "./finder.js";
-import { beside, code, indexLabel, isUnknown, learn, lineOf, made, mark, markLines, rangeOf, setUnknown, textOf, watch, wordAt, wordAtPoint } from "./lines.js";
+import { beside, code, indexLabel, isUnknown, learn, lineOf, mark, markLines, rangeOf, setUnknown, textOf, watch, wordAt, wordAtPoint } from "./lines.js";
 import { closePanel, focusList, isOf, isOpen, moveFocus, nextPlace, openPanel, restorePanel } from "./panel.js";
 import { areLettersKeys } from "./settings.js";
 import { fillSymbols, followSymbol } from "./symbols.js";
 import { hideTip, showTip } from "./tip.js";
+import { watchTree } from "./tree.js";
 
 const HOVER_WAIT = 250; // milliseconds
 const NUMBER_WIDTH = 56; // pixels, 3.5rem
@@ -197,7 +198,7 @@ function findFile() {
 }
 
 function findName() {
-  openFinder("Name, by its beginning", async (text) => (text ? fetched("/names", { prefix: text }) : { names: [], said: "" }), go);
+  openFinder("Name, by a part of it", async (text) => (text ? fetched("/names", { prefix: text }) : { names: [], said: "" }), go);
 }
 
 // Mouse and keys
@@ -266,40 +267,13 @@ function press(event) {
   event.preventDefault();
 }
 
-// The tree
-
-async function more(button) {
-  const [start, end] = [Number(button.dataset.start), Number(button.dataset.end)];
-  const before = button.dataset.before === "true";
-  const [from, to] = before ? [Math.max(start, end - 200), end] : [start, Math.min(end, start + 200)];
-  const answer = await fetched("/list", { at: button.dataset.at, start: from, end: to });
-  const items = answer.entries.map((entry) => {
-    const item = made("li", "");
-    const link = made("a", entry.name);
-    link.href = entry.href;
-    item.append(link);
-    return item;
-  });
-  const place = button.parentElement;
-  if (before) place.after(...items);
-  else place.before(...items);
-  Object.assign(button.dataset, before ? { end: from } : { start: to });
-  const left = Number(button.dataset.end) - Number(button.dataset.start);
-  button.textContent = `${left.toLocaleString("en")} more`;
-  if (left === 0) place.remove();
-}
-
-element("tree").addEventListener("click", (event) => {
-  if (event.target.matches("button.more")) more(event.target).catch((fault) => say(fault.message));
-});
-
 const CLICKS = { toggle, files: findFile, names: findName, search, address, keys: KEYS["?"], close, larger: () => { document.body.classList.toggle("larger"); seen(); } };
 for (const [id, action] of Object.entries(CLICKS)) element(id).addEventListener("click", action);
 element("search").hidden = !searchAddress;
 document.addEventListener("keydown", press);
 addEventListener("hashchange", follow);
 addEventListener("popstate", () => { if (!location.hash.endsWith("&refs")) restorePanel(question); });
-document.querySelector("#tree [aria-current]")?.scrollIntoView({ block: "nearest" });
+watchTree(fetched, say);
 if (code) {
   element("address").disabled = false;
   code.addEventListener("click", click);
