@@ -5,13 +5,14 @@ import http.client
 import io
 import json
 import os
+import re
 import tempfile
 import threading
 import unittest
-from contextlib import redirect_stderr
-from typing import Any, Optional
+from contextlib import contextmanager, redirect_stderr
+from typing import Any, Iterator, Optional
 from unittest import mock
-from urllib.parse import urlencode
+from urllib.parse import parse_qsl, urlencode, urlsplit
 
 from codenav.asking.tags import AWAY, GUESSED, SAID
 from codenav.browse import answers, folder, pages
@@ -44,6 +45,22 @@ TAG: dict[str, Any] = {
     "kind": "f",
     "line": 9,
 }
+
+
+def unlinked(body: str) -> str:
+    """A page without the links at the words of its text."""
+    return re.sub(r'<a href="\?[^"]*at=\d+\.\d+">(.*?)</a>', r"\1", body)
+
+
+def by_prefix(tags: list[dict[str, Any]]) -> Any:
+    """A server that has some tags, and answers those whose names begin with a text."""
+
+    def request(url: str, **_: Any) -> Answer:
+        prefix = dict(parse_qsl(urlsplit(url).query)).get("prefix", "")
+        found = [tag for tag in tags if tag["name"].startswith(prefix)]
+        return Answer(url, 200, json.dumps({"tags": found}).encode())
+
+    return request
 
 
 class Served:
@@ -88,11 +105,17 @@ class Served:
     def asked(self, path: str, reply: Any, status: int = 200) -> tuple[int, Any, Optional[str]]:
         """The status and the answer to a question that the server answers so, and the address that
         the server was asked by; of a record of the revision it has none."""
+        with self.replies(reply, status) as asked:
+            code, body, _ = self.got(path)
+        return code, json.loads(body), asked[0] if asked else None
+
+    @contextmanager
+    def replies(self, reply: Any, status: int = 200) -> Iterator[list[str]]:
+        """The addresses that the server is asked by, which answers so."""
         answer = Answer("http://127.0.0.1:1", status, json.dumps(reply).encode())
         asked: list[str] = []
         with mock.patch.object(fetch, "request", replying(answer, asked)):
-            code, body, _ = self.got(path)
-        return code, json.loads(body), asked[0] if asked else None
+            yield asked
 
 
 class Browse(Served, unittest.TestCase):
@@ -134,7 +157,7 @@ class Browse(Served, unittest.TestCase):
                 "default-src 'none'; script-src 'self'", headers["Content-Security-Policy"]
             )
         status, body, headers = self.got("/files/src/a.rs")
-        self.assertIn("\nfn run() {}\n</div></div>", body)
+        self.assertIn("\nfn run() {}\n</div></div>", unlinked(body))
         self.assertIn('<a href="/files/src/a.rs" aria-current="page">a.rs</a>', body)
         self.assertEqual(
             (status, body.rstrip()[-7:], self.got("/files/src/a.rs", "HEAD")[:2]),
@@ -158,7 +181,7 @@ class Browse(Served, unittest.TestCase):
 
     def test_texts_and_names_are_escaped(self) -> None:
         body = self.got("/files/src/a.rs")[1]
-        self.assertIn('>// &lt;script&gt;alert(1)&lt;/script&gt; &amp; "x"\n', body)
+        self.assertIn('>// &lt;script&gt;alert(1)&lt;/script&gt; &amp; "x"\n', unlinked(body))
         self.assertEqual(body.count("<script"), 1 + body.count('<script type="application/json"'))
         self.assertIn(
             '<a href="/files/src/%3Cb%3E%20&amp;%20&#x27;c&#x27;.rs">&lt;b&gt; &amp; &#x27;c&#x27;.rs</a>',
@@ -328,16 +351,9 @@ class Browse(Served, unittest.TestCase):
         self.assertEqual(
             (own["text"][own["start"] : own["end"]], own["is_definition"]), ("run", True)
         )
-        with mock.patch.object(answers, "MOST_PLACES", 2):
-            answer = self.asked(path, {"places": places})[1]
-        self.assertEqual(
-            (answer["said"], len(answer["places"])),
-            ("5 references in 2 files, of which 2 are listed", 2),
-        )
-        self.assertEqual(
-            self.asked(path, {"places": []})[1],
-            {"places": [], "said": "The index has no references here."},
-        )
+        answer = self.asked(path, {"places": []})[1]
+        said = "The index has no references here."
+        self.assertEqual((answer["places"], answer["count"], answer["said"]), ([], 0, said))
 
     def test_a_definition_that_is_the_whole_file(self) -> None:
         path = "/ask?what=definition&path=src/a.rs&line=1&character=3"
@@ -448,6 +464,20 @@ class Browse(Served, unittest.TestCase):
         with mock.patch.object(answers, "MOST_NAMES", 2):
             for tags, said in (([TAG] * 2, "2 names"), ([TAG] * 3, "the first 2 names")):
                 self.assertEqual(self.asked("/names?prefix=r", {"tags": tags})[1]["said"], said)
+
+    def test_names_that_have_a_text(self) -> None:
+        """Anywhere and in any case; those that begin with it are first."""
+        tags = [
+            {**TAG, "name": name} for name in ("to_run", "Runner", "RUN", "other", "rerun", "run")
+        ]
+        for prefix, names in (
+            ("run", ["run", "RUN", "Runner", "rerun", "to_run"]),
+            ("_RUN", ["to_run"]),
+            ("none", []),
+        ):
+            with self.subTest(prefix), mock.patch.object(fetch, "request", by_prefix(tags)):
+                found = json.loads(self.got(f"/names?prefix={prefix}")[1])["names"]
+                self.assertEqual([row["name"] for row in found], names)
 
     def test_replies_that_are_none(self) -> None:
         place = {**PLACE, "uri": self.uri("src/a.rs")}
@@ -610,8 +640,8 @@ class OfRevisions(Served, InRepository):
 
     def test_the_text_of_a_revision(self) -> None:
         body = self.got(f"/files/a.rs?revision={self.commit_name}")[1]
-        self.assertIn(">fn one() {}\nfn two()", body)
-        self.assertIn(f"as of {self.commit_name}", body)
+        self.assertIn(">fn one() {}\nfn two()", unlinked(body))
+        self.assertIn(f"as of {self.commit_name[:12]}", body)
         self.assertEqual(self.data(body, "unknown"), {"label": "", "lines": []})
         self.assertEqual(self.got("/files/a.rs?revision=none")[0], 404)
         self.assertEqual(self.got("/files/b.rs?revision=HEAD")[0], 404)

@@ -8,7 +8,7 @@ import unittest
 from urllib.parse import quote
 
 from codenav.settings.found import Settings
-from tests.test_browse import Served
+from tests.test_browse import Served, unlinked
 
 BAD = ["/", "//", "/etc/", "../", ".git/", "src/.kept/", "src/../"]
 TURNED = {"name": "a\u202ets.rs", "text": 'let a = "\u202e\u2066 x \u2069"; // \u202a\u2068\n'}
@@ -62,6 +62,7 @@ class Shown(Served, unittest.TestCase):
         body = self.got(f"/files/{quote(TURNED['name'])}")[1]
         body = re.sub(' data-path="[^"]*"', "", body)
         self.assertNotRegex(body, "[\u202a-\u202e\u2066-\u2069]")
+        body = unlinked(body)
         self.assertIn('let a = "\ufffd\ufffd x \ufffd"; // \ufffd\ufffd\n', body)
         self.assertIn(quote(TURNED["name"]), body)
 

@@ -3,24 +3,27 @@ addresses that stay."""
 
 import os
 import threading
+from contextlib import suppress
 from dataclasses import dataclass, field
 from itertools import islice
 from typing import Any, Iterator
 
+from codenav.asking.project import Reply
 from codenav.asking.tags import Names, Tag
 from codenav.browse.finder import found as found_files
 from codenav.browse.folder import Folder, Refused, href
+from codenav.browse.listed import definitions, number, references, where
 from codenav.browse.markdown import tree_of
 from codenav.browse.outline import Outlines
 from codenav.browse.view import View, permalink
 from codenav.settings.found import Settings
-from codenav.texts.places import Place, units
-from codenav.texts.today import NotThere, is_whole_file
+from codenav.texts.places import Place
+from codenav.texts.today import NotThere
 
 Parameters = dict[str, str]
 QUERIES = ("definition", "references", "hover")
 MOST_NUMBER = 2147483647
-MOST_PLACES, MOST_NAMES, MOST_CHARACTERS, MOST_VIEWS = 500, 50, 500, 8
+MOST_NAMES, MOST_VIEWS = 50, 8
 
 
 @dataclass
@@ -61,67 +64,40 @@ class Browser:
                 if what == "hover":
                     nodes = [] if reply.found is None else tree_of(reply.found)
                     return {"nodes": nodes, "said": said(notes, reply.note, reply.of)}
-                answer = self.places(view, reply.found, at.name, what)
-                if what == "references" and reply.note:
-                    return {**answer, "said": said(notes, reply.note, reply.of)}
-                if what == "references":
-                    self.mark_definitions(view, answer, at)
+                if what == "definition":
+                    answer = definitions(view, reply.found, at.name)
+                else:
+                    answer = self.references(view, reply, at, parameters)
             except NotThere as fault:
                 return {"places": [], "nodes": [], "said": about(fault), "is_new": True}
-        answer["said"] = said(answer["said"], notes, reply.note, reply.of)
-        return answer
+        return {**answer, "said": said(answer["said"], notes, reply.note, reply.of)}
 
-    def places(self, view: View, found: Any, path: str, what: str) -> dict[str, Any]:
-        """Places, as they're listed: by files, each with the line that stands there. Those that
-        aren't in the folder have no address."""
-        if (
-            what == "definition"
-            and len(found) == 1
-            and is_whole_file(found[0], path, view.lines(path))
-        ):
-            whole = "Nothing but a range over the whole file covers this place."
-            return {"places": [], "said": whole}
-        places = list({where(one): one for one in found}.values())
-        rows = [self.row(view, one) for one in places[:MOST_PLACES]]
-        files = len({row["file"] for row in rows})
-        return {"places": rows, "said": counted(what, len(places), files)}
+    def references(
+        self, view: View, reply: Reply, at: Place, parameters: Parameters
+    ) -> dict[str, Any]:
+        """A page of the references of a place; by name none is marked as the definition."""
+        start = parameters.get("start", "0")
+        if not start.isdecimal() or len(start) > 9:
+            raise Refused(400, "bad parameter")
+        defined = set() if reply.note else set(map(where, view.ask("definition", at)[0].found))
+        return references(view, reply.found, defined, int(start), parameters.get("only", ""))
 
-    def mark_definitions(self, view: View, answer: dict[str, Any], at: Place) -> None:
-        """Marks the references that are definitions."""
-        definitions, _ = view.ask("definition", at)
-        found = {where(one) for one in definitions.found}
-        for row in answer["places"]:
-            row["is_definition"] = tuple(row.pop("where")) in found
-
-    def row(self, view: View, place: dict[str, Any]) -> dict[str, Any]:
-        """A place as it's listed: its file, its line, the text there, and which part of the text it
-        is."""
-        name, line, character = where(place)
-        row = {
-            "where": (name, line, character),
-            "line": line + 1,
-            "href": None,
-            "start": 0,
-            "end": 0,
-        }
-        inside = self.folder.inside(name)
-        if inside is None:
-            return {**row, "file": name, "text": "not in the folder that is shown"}
-        try:
-            lines = view.lines(view.path(inside))
-        except Refused as fault:
-            return {**row, "file": inside, "text": str(fault)}
-        if line >= len(lines):
-            return {**row, "file": inside, "text": "the file has no such line"}
-        text = lines[line]
-        indent = len(text) - len(text.lstrip())
-        cut = text[indent : indent + MOST_CHARACTERS]
-        start, end = character - indent, part_end(place, indent + units(cut)) - indent
-        address = href(inside, line, character, view.revision)
-        return {**row, "file": inside, "text": cut, "start": start, "end": end, "href": address}
+    def target(self, name: str, parameters: Parameters) -> str:
+        """Where the link at a word leads: to its definition in the folder, if that is one alone,
+        else to the word with its panel."""
+        line, _, character = parameters.get("at", "").partition(".")
+        position = position_in({"line": line, "character": character})
+        view = self.view(parameters)
+        at = Place(view.path(name), max(position[0], 1) - 1, max(position[1], 1) - 1)
+        with view.lock, suppress(NotThere):
+            rows = definitions(view, view.ask("definition", at)[0].found, at.name)["places"]
+            if len(rows) == 1 and rows[0]["href"]:
+                return str(rows[0]["href"])
+        return href(name, at.line, at.character, view.revision) + "&refs"
 
     def names(self, parameters: Parameters) -> dict[str, Any]:
-        """The names that begin with a text, with the places of their tags in the folder."""
+        """The names that have a text, those that begin with it first, with the places of their
+        tags in the folder."""
         prefix = parameters.get("prefix", "")
         if not prefix or "\0" in prefix:
             raise Refused(400, "bad parameter")
@@ -143,9 +119,11 @@ class Browser:
         return {"names": rows, "said": said(many, notes, names.said(), "")}
 
     def named(self, view: View, prefix: str, names: Names) -> Iterator[tuple[Tag, Place]]:
-        """The tags whose names begin with a text, with their places in the folder."""
+        """The tags whose names have a text, with their places in the folder."""
         for project in self.settings.projects():
             tags = self.tags_of(view, project, prefix)
+            if len(tags) < MOST_NAMES:
+                tags = [*tags, *self.outlines_of(view, project).within(prefix)]
             files = {(tag["project"], tag["file"]): None for tag in tags}
             shown = {file for file in files if self.has(*file)}
             own = [tag for tag in tags if (tag["project"], tag["file"]) in shown]
@@ -157,6 +135,11 @@ class Browser:
     def tags_of(self, view: View, project: str, prefix: str) -> list[Tag]:
         """The tags of a project whose names begin with a text."""
         return view.workspace.project(self.settings, project).index.names({"prefix": prefix}, False)
+
+    def outlines_of(self, view: View, project: str) -> Outlines:
+        """The tags of a project that were read."""
+        made = Outlines(lambda prefix: self.tags_of(view, project, prefix))
+        return self.outlines.setdefault(project, made)
 
     def has(self, project: str, file: str) -> bool:
         """Whether the file of a tag is in the folder that is shown, if it's there at all."""
@@ -194,10 +177,7 @@ class Browser:
             inside = os.path.relpath(names.old_path(asked, project, path), folder)
             if inside.startswith(os.pardir):
                 continue
-            outlines = self.outlines.setdefault(
-                project, Outlines(lambda prefix, own=project: self.tags_of(view, own, prefix))  # type: ignore[misc]
-            )
-            tags, left = outlines.of(inside, text)
+            tags, left = self.outlines_of(view, project).of(inside, text)
             if left:
                 view.notes.append(f"without names that begin with {left} other letters")
             yield from names.places(asked, tags, self.settings.tags_folder)
@@ -230,30 +210,6 @@ def position_in(parameters: Parameters) -> tuple[int, int]:
     if len(numbers) != 2 or max(numbers) > MOST_NUMBER:
         raise Refused(400, "bad parameter")
     return numbers[0], numbers[1]
-
-
-def where(place: dict[str, Any]) -> tuple[str, int, int]:
-    """The file, or the document that is no file, of a place, its line and its character."""
-    return place["path"] or place["uri"], place["start"]["line"], place["start"]["character"]
-
-
-def part_end(place: dict[str, Any], length: int) -> int:
-    """Where a place ends on its first line."""
-    end = place["end"]
-    return min(int(end["character"]), length) if end["line"] == place["start"]["line"] else length
-
-
-def number(count: int, what: str) -> str:
-    """How many there are, in words."""
-    return f"{count} {what}{'' if count == 1 else 's'}"
-
-
-def counted(what: str, count: int, files: int) -> str:
-    """How many places were found, in words."""
-    if not count:
-        return f"The index has no {what} here."
-    more = f", of which {MOST_PLACES} are listed" if count > MOST_PLACES else ""
-    return f"{number(count, what.removesuffix('s'))} in {number(files, 'file')}{more}"
 
 
 def said(*texts: str) -> str:

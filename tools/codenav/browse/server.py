@@ -123,8 +123,11 @@ class Handler(BaseHTTPRequestHandler):
 
     def answer_page(self, path: str, parameters: Parameters) -> None:
         """Sends the page of a file or a folder as its pieces are made; the connection's end is the
-        page's."""
+        page's. A link at a word leads on."""
         name = os.fsdecode(unquote_to_bytes(path.removeprefix("/files/"))) if path != "/" else ""
+        if "at" in parameters:
+            self.head(303, HTML, 0, self.browser.target(name, parameters))
+            return
         view = self.browser.view(parameters)
         project, search = self.browser.settings.project, self.browser.search
         pieces = file_page(view, name.removesuffix("/"), project, search)
@@ -147,13 +150,16 @@ class Handler(BaseHTTPRequestHandler):
         else:
             self.answer(fault.status, JSON, json.dumps({"fault": str(fault)}).encode())
 
-    def head(self, status: int, kind: str, length: int = -1) -> None:
-        """Sends the head of an answer, of which the length is known or not."""
+    def head(self, status: int, kind: str, length: int = -1, location: str = "") -> None:
+        """Sends the head of an answer, of which the length is known or not, and which may lead
+        elsewhere."""
         self.is_begun = True
         self.send_response(status)
         fields = {**HEADERS, "Content-Type": kind}
         if length >= 0:
             fields["Content-Length"] = str(length)
+        if location:
+            fields["Location"] = location
         for name, value in fields.items():
             self.send_header(name, value)
         self.end_headers()

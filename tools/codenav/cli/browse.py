@@ -81,7 +81,7 @@ def browse(call: BrowseCall) -> int:
 BROWSE = Command(
     "browse",
     "Shows the files of a folder as web pages on 127.0.0.1, and asks the server at their words: a "
-    "click goes to the definition, `r` lists the references, hovering says what the index says, "
+    "click on one opens a panel with what the index says of it, its definition and its references, "
     "`f` finds files and `/` names as one types, and `?` lists all keys. `#L12C4` in an address is "
     "line 12, character 4, from 1.",
     BrowseCall,

@@ -36,9 +36,13 @@ function render(block) {
   block.rendered = true;
 }
 
-// The text of a line, as elements for what has a colour, for words that the index doesn't know, and for the word that is marked.
-function fill(line, text) {
-  const number = Number(line.dataset.number);
+// The address of a word's link: the server leads on to its definition.
+function linkTo(place) {
+  return `${location.pathname}${location.search}${location.search ? "&" : "?"}at=${place.line}.${place.start + 1}`;
+}
+
+// The parts of a line that have a colour or that the index doesn't know: each its start, its end and its class.
+function partsOf(number) {
   const parts = [];
   let at = 0;
   const found = colours.lines[number - 1] ?? [];
@@ -48,28 +52,42 @@ function fill(line, text) {
     parts.push([start, at, colours.kinds[found[index + 2]]]);
   }
   for (const [start, length] of unknown.get(number) ?? []) parts.push([start, start + length, "new"]);
-  const mark = marked && marked.line === number ? marked : null;
-  const cuts = [...new Set([0, text.length, ...parts.flatMap(([start, end]) => [start, end]), ...(mark ? [mark.start, mark.end] : [])])].sort((a, b) => a - b);
+  return parts;
+}
+
+// The element of a word: a link, unless the index doesn't know it; the word that is marked is the one that Tab comes to.
+function wordElement(place) {
+  const isMarked = marked?.line === place.line && marked.start === place.start;
+  const word = made(isUnknown(place) ? "span" : "a", "", "word");
+  if (isMarked) word.id = "word";
+  word.tabIndex = isMarked ? 0 : -1;
+  if (word.tagName === "SPAN") return word;
+  word.href = linkTo(place);
+  word.draggable = false;
+  return word;
+}
+
+// The text of a line, as elements for its words and for what has a colour.
+function fill(line, text) {
+  const number = Number(line.dataset.number);
+  const parts = partsOf(number);
+  const words = wordsIn(number, text);
+  const cuts = [...new Set([0, text.length, ...[...parts, ...words.map(({ start, end }) => [start, end])].flatMap(([start, end]) => [start, end])])].sort((a, b) => a - b);
   const nodes = [];
-  let word = null;
+  let next = 0, word = null;
   for (let index = 0; index + 1 < cuts.length; index += 1) {
     const [start, end] = [cuts[index], cuts[index + 1]];
+    if (words[next]?.end <= start) [next, word] = [next + 1, null];
     const classes = parts.filter((part) => part[0] <= start && end <= part[1]).map((part) => part[2]).join(" ");
     const node = classes ? made("span", text.slice(start, end), classes) : document.createTextNode(text.slice(start, end));
-    if (mark && mark.start <= start && end <= mark.end) {
-      if (!word) {
-        word = made("span", "");
-        word.id = "word";
-        word.tabIndex = 0;
-        word.setAttribute("role", isUnknown(mark) ? "text" : "link");
-        nodes.push(word);
-      }
+    if (words[next]?.start <= start) {
+      if (!word) nodes.push(word = wordElement(words[next]));
       word.append(node);
     } else nodes.push(node);
   }
-  const hadFocus = document.activeElement?.id === "word" && line.contains(document.activeElement);
+  const hadFocus = line.contains(document.activeElement);
   line.replaceChildren(...nodes);
-  if (hadFocus && word) word.focus({ preventScroll: true });
+  if (hadFocus) line.querySelector("#word")?.focus({ preventScroll: true });
 }
 
 // What comes behind the text of the page: the colours, and the words that the index doesn't know.
@@ -93,7 +111,10 @@ export function watch(root) {
       observer.unobserve(entry.target);
     }
   }, { root, rootMargin: `${AHEAD} 0px` });
-  blocks.forEach((block) => observer.observe(block));
+  for (const block of blocks) {
+    if (!block.rendered) block.textContent = block.textContent; // its links would be stops of Tab
+    observer.observe(block);
+  }
 }
 
 // Lines and words; a word is { line, start, end }, the line from 1, characters from 0 in UTF-16 code units
@@ -107,7 +128,11 @@ export function lineOf(number) {
 
 export function wordsOf(number) {
   const line = lineOf(number);
-  return line ? [...line.textContent.matchAll(WORD)].map((found) => ({ line: number, start: found.index, end: found.index + found[0].length })) : [];
+  return line ? wordsIn(number, line.textContent) : [];
+}
+
+function wordsIn(number, text) {
+  return [...text.matchAll(WORD)].map((found) => ({ line: number, start: found.index, end: found.index + found[0].length }));
 }
 
 export function wordAt(number, character) {
@@ -128,21 +153,22 @@ export function indexLabel() {
   return label;
 }
 
+// Marks the lines from one to another as those that are shown.
+export function markLines(first, last) {
+  for (const line of document.querySelectorAll(".line.here")) line.classList.remove("here");
+  for (let number = first; number <= last && lineOf(number); number += 1) lineOf(number).classList.add("here");
+}
+
 export function mark(place, focus) {
   const before = marked && lineOf(marked.line);
   marked = place;
-  if (before) {
-    before.classList.remove("here");
-    fill(before, before.textContent);
-  }
-  document.querySelector(".line.here")?.classList.remove("here");
+  if (before) fill(before, before.textContent);
   if (!place) return;
+  markLines(place.line, place.line);
   const line = lineOf(place.line);
-  line.classList.add("here");
   fill(line, line.textContent);
-  const word = element("word");
-  if (focus) word.focus({ preventScroll: true });
-  word.scrollIntoView({ block: "nearest", inline: "nearest" });
+  if (focus) element("word").focus({ preventScroll: true });
+  element("word").scrollIntoView({ block: "nearest", inline: "nearest" });
 }
 
 export function textOf(place) {

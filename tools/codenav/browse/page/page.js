@@ -1,26 +1,37 @@
 // Asks at words of the file that is shown. Everything that comes from the index or the files is put in as text, never as HTML.
 
 import { openFinder } from "./finder.js";
-import { beside, code, indexLabel, isUnknown, learn, lineOf, made, mark, rangeOf, setUnknown, textOf, watch, wordAt, wordAtPoint } from "./lines.js";
-import { closeList, markCurrent, moveFocus, nextPlace, openList, restoreList } from "./list.js";
+import { beside, code, indexLabel, isUnknown, learn, lineOf, mark, markLines, rangeOf, setUnknown, textOf, watch, wordAt, wordAtPoint } from "./lines.js";
+import { closePanel, focusList, isOf, isOpen, moveFocus, nextPlace, openPanel, restorePanel } from "./panel.js";
+import { areLettersKeys } from "./settings.js";
+import { fillSymbols, followSymbol } from "./symbols.js";
 import { hideTip, showTip } from "./tip.js";
+import { watchTree } from "./tree.js";
 
 const HOVER_WAIT = 250; // milliseconds
 const NUMBER_WIDTH = 56; // pixels, 3.5rem
+const SAID = 4000; // milliseconds
+const MOST_LINES = 5000; // of a range that is marked
+const PLACE = /^#L([1-9]\d*)(?:C([1-9]\d*))?(?:-L([1-9]\d*))?(&refs)?$/;
 const element = (id) => document.getElementById(id);
 const main = element("main");
 const tip = element("tip");
 const searchAddress = document.body.dataset.search;
 const revision = new URLSearchParams(location.search).get("revision") ?? "";
 let word = null; // the word that is asked about
-let asked = 0; // the number of the last question: an answer to an earlier one is dropped
+let range = null; // the first and the last line that the address names
+let quiet = 0;
 
-function say(text) {
+// What is said stays seen for some seconds; what the panel shows is told to readers of screens alone.
+function say(text, isSeen = true) {
   element("status").textContent = text ?? "";
+  element("status").classList.toggle("seen", Boolean(text) && isSeen);
+  clearTimeout(quiet);
+  quiet = setTimeout(() => element("status").classList.remove("seen"), SAID);
 }
 
-async function fetched(path, parameters) {
-  const response = await fetch(`${path}?${new URLSearchParams(revision ? { ...parameters, revision } : parameters)}`);
+async function fetched(path, parameters, of = revision) {
+  const response = await fetch(`${path}?${new URLSearchParams(of ? { ...parameters, revision: of } : parameters)}`);
   const answer = await response.json();
   if (!response.ok) throw new Error(answer.fault);
   return answer;
@@ -32,8 +43,9 @@ function at(place) {
 
 function show(place, focus) {
   word = place;
-  for (const id of ["definition", "references", "hover", "search"]) element(id).disabled = !place || (id !== "search" && isUnknown(place));
+  element("search").disabled = !place;
   mark(place, focus);
+  if (place) followSymbol(place.line);
   if (place && isUnknown(place)) say(`not in ${indexLabel() || "the text that was indexed"}`);
 }
 
@@ -44,56 +56,66 @@ function hashOf(place) {
 }
 
 function follow() {
-  const parts = /^#L([1-9]\d*)(?:C([1-9]\d*))?$/.exec(location.hash);
+  const today = document.querySelector("#crumbs .today");
+  if (today) today.hash = location.hash;
+  const parts = PLACE.exec(location.hash);
   if (!code || !parts) return;
   const number = Number(parts[1]);
   const line = lineOf(number);
   if (!line) return say(`There is no line ${number}.`);
+  range = [number, Math.min(Math.max(Number(parts[3] ?? number), number), number + MOST_LINES)];
   line.scrollIntoView({ block: "center", inline: "nearest" });
   show(parts[2] ? wordAt(number, Number(parts[2]) - 1) : null, true);
-  document.querySelector(".line.here")?.classList.remove("here");
-  line.classList.add("here");
-  markCurrent();
+  markLines(...range);
+  followSymbol(number);
+  if (parts[4] && word && !isOf(word)) panel();
+  else restorePanel(question);
+  if (isOpen()) seen();
 }
 
 function go(href) {
-  const here = word ? hashOf(word) : location.hash;
-  if (here !== location.hash) history.replaceState(null, "", here);
   if (href === location.pathname + location.search + location.hash) follow();
   else location.assign(href);
 }
 
+// Has the word in sight beside the panel.
+function seen() {
+  element("word")?.scrollIntoView({ block: "nearest", inline: "nearest" });
+}
+
 // Questions and answers
 
-async function ask(what) {
-  const place = word;
-  if (!place || isUnknown(place)) return null;
-  const number = ++asked;
-  say("Asking ..");
-  try {
-    const answer = await fetched("/ask", { what, ...at(place) });
-    if (number !== asked) return null;
-    say(answer.said);
-    if (answer.is_new) setUnknown(place);
-    return answer;
-  } catch (fault) {
-    if (number === asked) say(fault.message);
-    return null;
-  }
+async function question(place, what, more, page) {
+  const [path, query] = (page ?? location.pathname + location.search).split("?");
+  const name = page ? decodeURIComponent(path.slice("/files/".length)) : code.dataset.path;
+  const answer = await fetched("/ask", { what, ...more, ...at(place), path: name }, new URLSearchParams(query).get("revision") ?? "");
+  if (answer.is_new && !page) setUnknown(place);
+  return answer;
+}
+
+// Opens the panel of the word: a first click adds a step to go back by, others replace it.
+async function panel() {
+  if (!word || isUnknown(word)) return;
+  hideTip();
+  const hash = `${hashOf(word)}&refs`;
+  if (location.hash !== hash) history[isOpen() || location.hash.startsWith(hashOf(word)) ? "replaceState" : "pushState"](null, "", hash);
+  const asked = openPanel(word, textOf(word), question);
+  seen();
+  const answers = await asked;
+  if (answers) say(answers.references?.said ?? answers.fault, false);
 }
 
 async function definition() {
-  const answer = await ask("definition");
-  if (!answer || answer.places.length === 0) return;
-  if (answer.places.length > 1 || !answer.places[0].href) return openList(`${textOf(word)}: ${answer.said}`, answer.places);
-  const [place] = answer.places;
-  if (place.href === location.pathname + location.search + hashOf(word)) return say("This is the definition.");
-  go(place.href);
+  if (!isOf(word)) await panel();
+  const link = element("definition");
+  if (!isOpen() || link.hidden) return;
+  if (link.getAttribute("href") === location.pathname + location.search + hashOf(word)) return say("This is the definition.");
+  go(link.getAttribute("href"));
 }
 
 async function references() {
-  const answer = await ask("references");
-  if (answer && answer.places.length) openList(`${textOf(word)}: ${answer.said}`, answer.places);
+  if (word && !isOf(word) && !isOpen()) await panel();
+  if (isOpen()) focusList();
 }
 
 const hovers = new Map();
@@ -121,10 +143,27 @@ async function hoverHere() {
   if (tip.hidden) say(answer.fault ?? "Nothing is said of it.");
 }
 
+// Closes one thing at a time: the hover, the drawer, the panel.
 function close() {
-  closeList();
-  hideTip();
+  if (!tip.hidden) return leave();
+  if (document.body.classList.contains("drawer")) return toggle();
+  closePanel();
+  if (location.hash.endsWith("&refs")) history.replaceState(null, "", location.hash.replace("&refs", ""));
   element("word")?.focus({ preventScroll: true });
+}
+
+// The left is hidden, or in a narrow window a drawer over the text.
+function toggle() {
+  const isNarrow = matchMedia("(max-width: 56rem)").matches;
+  const isShown = document.body.classList.toggle(isNarrow ? "drawer" : "no-side") === isNarrow;
+  element("toggle").setAttribute("aria-expanded", String(isShown));
+  if (isNarrow && isShown) element("side").querySelector("a")?.focus();
+}
+
+function symbols() {
+  const isHidden = getComputedStyle(element("side")).visibility === "hidden";
+  if (isHidden) toggle();
+  (document.querySelector("#outline [aria-current]") ?? document.querySelector("#outline a"))?.focus();
 }
 
 function search() {
@@ -133,10 +172,14 @@ function search() {
 
 async function address() {
   if (!code) return;
-  const place = word ?? { line: 1, start: 0 };
+  const [first, last] = range ?? [1, 1];
+  const place = word ?? { line: first, start: 0 };
   try {
     const answer = await fetched("/address", at(place));
-    const whole = location.origin + answer.href;
+    let whole = location.origin + answer.href;
+    if (word && isOpen()) whole += "&refs";
+    else if (!word) whole = whole.replace(/C1$/, "");
+    if (last > first) whole += `-L${(await fetched("/address", at({ line: last, start: 0 }))).href.match(/#L(\d+)/)[1]}`;
     try {
       await navigator.clipboard.writeText(whole);
       say(answer.said);
@@ -155,19 +198,7 @@ function findFile() {
 }
 
 function findName() {
-  openFinder("Name, by its beginning", async (text) => (text ? fetched("/names", { prefix: text }) : { names: [], said: "" }), go);
-}
-
-function outline() {
-  if (!code) return;
-  const found = fetched("/outline", { path: code.dataset.path });
-  found.catch(() => {});
-  const rows = async (text) => {
-    const { names: all, said } = await found;
-    const names = all.filter((row) => row.name.toLowerCase().includes(text.toLowerCase()));
-    return { names, said: text && !names.length ? "no tags of this file" : said };
-  };
-  openFinder("Outline of the file", rows, go);
+  openFinder("Name, by a part of it", async (text) => (text ? fetched("/names", { prefix: text }) : { names: [], said: "" }), go);
 }
 
 // Mouse and keys
@@ -194,73 +225,57 @@ function over(event) {
 }
 
 function click(event) {
-  if (!getSelection().isCollapsed) return;
+  const isOwn = !(event.ctrlKey || event.metaKey || event.altKey);
   const line = event.target.closest(".line");
-  if (line && event.clientX < line.getBoundingClientRect().left + NUMBER_WIDTH) return go(`${location.pathname}${location.search}#${line.id}`);
+  if (line && event.clientX < line.getBoundingClientRect().left + NUMBER_WIDTH) {
+    const [first, last] = [Number(line.dataset.number), range?.[0] ?? 0].sort((a, b) => a - b);
+    return go(`${location.pathname}${location.search}${event.shiftKey && first > 0 ? `#L${first}-L${last}` : `#${line.id}`}`);
+  }
+  if (!isOwn || event.shiftKey && event.target.closest("a")) return;
+  event.preventDefault();
+  if (!getSelection().isCollapsed) return;
   const place = wordAtPoint(event.clientX, event.clientY);
   if (!place) return;
   leave();
   show(place, true);
-  definition();
+  panel();
 }
 
-function step(direction) {
-  const href = nextPlace(direction);
+async function step(direction) {
+  const href = await nextPlace(direction);
   if (href) go(href);
 }
 
 const KEYS = {
-  f: findFile, "/": findName, o: outline, r: references, h: hoverHere, s: search, y: address, Escape: close,
-  n: () => step(1), p: () => step(-1), "?": () => element("help").showModal(),
+  f: findFile, "/": findName, b: toggle, o: symbols, d: definition, r: references, h: hoverHere, s: search, y: address,
+  n: () => step(1), p: () => step(-1), x: () => element("larger").click(), "?": () => element("help").showModal(),
 };
 
 function press(event) {
-  if (event.ctrlKey || event.altKey || event.metaKey || event.target.matches("input, dialog *")) return;
+  if (event.ctrlKey || event.altKey || event.metaKey || event.target.closest("dialog")) return;
+  if (event.key === "Escape") return close();
+  if (event.target.matches("input")) return;
   const inCode = code?.contains(event.target);
   const inList = element("places").contains(event.target);
-  if (Object.hasOwn(KEYS, event.key)) KEYS[event.key]();
-  else if (event.key === "Enter" && word && inCode) definition();
+  if (Object.hasOwn(KEYS, event.key)) {
+    if (!areLettersKeys()) return;
+    KEYS[event.key]();
+  } else if (event.key === "Enter" && word && inCode) panel();
   else if (inCode && event.key.startsWith("Arrow")) show(beside(word, event.key) ?? word, true);
   else if (inList && (event.key === "ArrowDown" || event.key === "ArrowUp")) moveFocus(event.key === "ArrowDown" ? 1 : -1);
   else return;
   event.preventDefault();
 }
 
-// The tree
-
-async function more(button) {
-  const [start, end] = [Number(button.dataset.start), Number(button.dataset.end)];
-  const before = button.dataset.before === "true";
-  const [from, to] = before ? [Math.max(start, end - 200), end] : [start, Math.min(end, start + 200)];
-  const answer = await fetched("/list", { at: button.dataset.at, start: from, end: to });
-  const items = answer.entries.map((entry) => {
-    const item = made("li", "");
-    const link = made("a", entry.name);
-    link.href = entry.href;
-    item.append(link);
-    return item;
-  });
-  const place = button.parentElement;
-  if (before) place.after(...items);
-  else place.before(...items);
-  Object.assign(button.dataset, before ? { end: from } : { start: to });
-  const left = Number(button.dataset.end) - Number(button.dataset.start);
-  button.textContent = `${left.toLocaleString("en")} more`;
-  if (left === 0) place.remove();
-}
-
-document.querySelector("nav").addEventListener("click", (event) => {
-  if (event.target.matches("button.more")) more(event.target).catch((fault) => say(fault.message));
-});
-
-const CLICKS = { files: findFile, names: findName, outline, definition, references, hover: hoverHere, search, address, keys: KEYS["?"], close };
+const CLICKS = { toggle, files: findFile, names: findName, search, address, keys: KEYS["?"], close, larger: () => { document.body.classList.toggle("larger"); seen(); } };
 for (const [id, action] of Object.entries(CLICKS)) element(id).addEventListener("click", action);
 element("search").hidden = !searchAddress;
 document.addEventListener("keydown", press);
 addEventListener("hashchange", follow);
-document.querySelector("nav [aria-current]")?.scrollIntoView({ block: "center" });
+addEventListener("popstate", () => { if (!location.hash.endsWith("&refs")) restorePanel(question); });
+watchTree(fetched, say);
 if (code) {
-  element("outline").disabled = element("address").disabled = false;
+  element("address").disabled = false;
   code.addEventListener("click", click);
   code.addEventListener("mousemove", over);
   code.addEventListener("mouseleave", () => { clearTimeout(timer); timer = setTimeout(leave, HOVER_WAIT); });
@@ -269,8 +284,9 @@ if (code) {
   main.addEventListener("scroll", leave);
   watch(main);
   follow();
-  restoreList();
-  if (document.readyState === "loading") document.addEventListener("DOMContentLoaded", () => { learn(); if (word) show(word, false); });
-  else { learn(); if (word) show(word, false); }
+  fetched("/outline", { path: code.dataset.path }).then(({ names }) => fillSymbols(names, word?.line ?? range?.[0] ?? 1), () => {});
+  const learnt = () => { learn(); if (word) show(word, false); };
+  if (document.readyState === "loading") document.addEventListener("DOMContentLoaded", learnt);
+  else learnt();
 }
 document.documentElement.dataset.ready = "yes";

@@ -5,7 +5,7 @@ const ELEMENTS = new Set(["p", "h1", "h2", "h3", "h4", "h5", "h6", "ul", "ol", "
 const KINDS = new Set(["comment", "keyword", "string", "number", "function", "type", "meta"]);
 const tip = document.getElementById("tip");
 
-function built(node) {
+export function built(node) {
   if (typeof node === "string") return document.createTextNode(node);
   const [name, attributes, children] = node;
   const made = document.createElement(ELEMENTS.has(name) ? name : "span");
