@@ -25,6 +25,7 @@ class Tool(NamedTuple):
 PACKAGES = {"google": "python3-protobuf"}
 TOOLS = {
     "publish": Tool("publish", "from a checkout to answers: index, prepare, check, upload"),
+    "index": Tool("index", "make a dump by asking a language server"),
     "prepare": Tool("prepare", "make a dump that the server takes of an indexer's"),
     "upload": Tool("upload", "upload dumps, tags files or a set"),
     "rebalance": Tool("rebalance", "put kept sets where they belong"),

@@ -1,0 +1,293 @@
+"""Tests of `index`: over a server that stands in for a language server and fails as it's told, and
+over clangd where that is installed."""
+
+import io
+import json
+import os
+import re
+import shlex
+import shutil
+import signal
+import subprocess
+import sys
+import tempfile
+import time
+import unittest
+from contextlib import redirect_stderr
+from typing import Any, Callable
+from unittest import mock
+
+from codenav.cli.index import INDEX
+from codenav.client.projects import put
+from codenav.texts.places import uri_of
+from tests.servers import TOP, OnServer, command
+from tests.test_set_service import asked_at
+
+STAND_IN = os.path.join(TOP, "tools", "tests", "language_server.py")
+SERVER = f"{sys.executable} -B {shlex.quote(STAND_IN)}"
+FILES = {
+    "api.h": "int open();\nint both();\n",
+    "one.c": "int open() {\n  return both() + open() + missing();\n}\n",
+    "two.c": "int both() {\n  return open();\n}\nint both_made() { return 0; }\n",
+}
+PACKAGE = ["--package", "pkg-config api 1.2"]
+POINTS = ("semanticTokens/full", "documentSymbol", "definition", "hover", "implementation")
+SECONDS = 20
+
+
+def wait_for(is_so: Callable[[], bool]) -> None:
+    """Waits until something is so."""
+    end = time.monotonic() + SECONDS
+    while not is_so():
+        if time.monotonic() > end:
+            raise AssertionError(f"not so within {SECONDS} s")
+        time.sleep(0.05)
+
+
+def is_running(number: str) -> bool:
+    """Whether a process runs still."""
+    try:
+        with open(f"/proc/{number}/stat", encoding="ascii") as file:
+            return file.read().rpartition(") ")[2][:1] != "Z"
+    except OSError:
+        return False
+
+
+def vertices(out: str, label: str) -> list[dict[str, Any]]:
+    """The vertices of a label in a dump."""
+    with open(out, encoding="utf-8") as file:
+        elements = [json.loads(line) for line in file]
+    return [one for one in elements if (one["type"], one["label"]) == ("vertex", label)]
+
+
+class OnFolder(OnServer):
+    """Tests over a small folder."""
+
+    files: dict[str, str] = FILES
+
+    def setUp(self) -> None:
+        super().setUp()
+        self.home = self.enterContext(tempfile.TemporaryDirectory())
+        self.folder, self.out = (os.path.join(self.home, name) for name in ("code", "out.lsif"))
+        for name, text in self.files.items():
+            path = os.path.join(self.folder, name)
+            os.makedirs(os.path.dirname(path), exist_ok=True)
+            with open(path, "w", encoding="utf-8") as file:
+                file.write(text)
+
+    def index(self, *words: str, **variables: str) -> tuple[int, str]:
+        """The status of a call, and what it says, without the stages."""
+        given = {"FAILED": os.path.join(self.home, "failed"), **variables}
+        with mock.patch.dict(os.environ, given), redirect_stderr(io.StringIO()) as said:
+            status = INDEX.main([*words, self.folder, self.out])
+        lines = [line.removeprefix("codenav index: ") for line in said.getvalue().splitlines()]
+        return status, "\n".join(line for line in lines if not re.search(r" s\)$", line))
+
+    def stood_in(self, *words: str, **variables: str) -> tuple[int, str]:
+        """A call over the server that stands in."""
+        return self.index("--server", SERVER, "--patience", "2", *PACKAGE, *words, **variables)
+
+    def body(self) -> bytes:
+        """What was written."""
+        with open(self.out, "rb") as file:
+            return file.read()
+
+    def assert_answers(self, rows: dict[tuple[str, str, int, int], Any]) -> None:
+        """Has a server answer from what was written as rows say: by kind, file, line and character the
+        places, each as its file and its line, or the contents of a hover."""
+        with open(self.out, "rb") as body:
+            answer = put(self.url, "app", "lsif", body, "key", "2", False)
+        self.assertEqual(answer.status, 200, answer)
+        asked = asked_at(self.url, "app")
+        for (kind, name, line, character), wanted in rows.items():
+            uri = uri_of(os.path.join(self.folder, name), [])
+            parameters = {"uri": uri, "line": line, "character": character}
+            member = "contents" if kind == "hover" else "places"
+            with self.subTest(kind=kind, name=name, line=line, character=character):
+                found = asked.query(kind, parameters, member)
+                if kind != "hover":
+                    found = sorted(
+                        f"{os.path.basename(one['uri'])}:{one['start']['line']}" for one in found
+                    )
+                self.assertEqual(found, wanted)
+
+
+class Answers(OnFolder):
+    def test_answers(self) -> None:
+        status, said = self.stood_in()
+        self.assertEqual(status, 0, said)
+        self.assert_answers(
+            {
+                ("definition", "one.c", 1, 9): ["two.c:0"],
+                ("definition", "api.h", 1, 4): ["two.c:0"],
+                ("definition", "two.c", 0, 4): ["two.c:0"],
+                ("definition", "one.c", 1, 27): [],
+                ("declaration", "one.c", 1, 9): ["api.h:1"],
+                ("declaration", "two.c", 3, 4): [],
+                ("implementation", "one.c", 1, 9): ["two.c:3"],
+                ("references", "two.c", 0, 4): ["api.h:1", "one.c:1", "two.c:0"],
+                ("references", "one.c", 0, 4): ["api.h:0", "one.c:0", "one.c:1", "two.c:1"],
+                ("hover", "one.c", 1, 9): "about both",
+            }
+        )
+
+    def test_monikers(self) -> None:
+        """What a header declares is exported from where it's defined."""
+        self.stood_in()
+        found = {(one["identifier"], one["kind"]) for one in vertices(self.out, "moniker")}
+        self.assertEqual(found, {("api.h:open", "export"), ("api.h:both", "export")})
+        packages = vertices(self.out, "packageInformation")
+        wanted = [("pkg-config", "api", "1.2")]
+        self.assertEqual([(p["manager"], p["name"], p["version"]) for p in packages], wanted)
+
+
+class Failing(OnFolder):
+    def whole(self) -> bytes:
+        """The dump that is written where nothing fails."""
+        self.stood_in()
+        return self.body()
+
+    def test_once(self) -> None:
+        """A server that fails once leaves nothing out, unless it answers by an error or by no form."""
+        whole = self.whole()
+        rows = [
+            *((kind, method) for kind in ("end", "late", "error", "no-json") for method in POINTS),
+            *((kind, "definition") for kind in ("hang", "lost", "formless")),
+            ("hang", "semanticTokens/full"),
+            ("formless", "semanticTokens/full"),
+            ("formless", "hover"),
+        ]
+        for kind, method in rows:
+            with self.subTest(kind=kind, method=method):
+                mark = os.path.join(self.home, f"{kind} {method}".replace("/", " "))
+                status, said = self.stood_in(FAULT=f"{kind} {method} * once", FAILED=mark)
+                self.assertTrue(os.path.exists(mark))
+                if kind in ("error", "formless"):
+                    self.assertEqual((status, said.count("left out")), (1, 1), said)
+                else:
+                    self.assertEqual(status, 0, said)
+                    self.assertEqual(self.body(), whole)
+
+    def test_always(self) -> None:
+        """What a server fails at each time is left out alone, and said."""
+        for kind in ("end", "hang", "lost", "error", "no-json", "formless"):
+            with self.subTest(kind=kind):
+                status, said = self.stood_in(FAULT=f"{kind} definition missing always")
+                self.assertEqual((status, said.count("left out: definitions")), (1, 1), said)
+                self.assertIn("one.c:2:", said)
+                self.assert_answers({("definition", "one.c", 1, 9): ["two.c:0"]})
+
+    def test_each_process(self) -> None:
+        """Processes that end after so many requests each come to the same dump."""
+        whole = self.whole()
+        status, said = self.stood_in(FAULT="end * * 9")
+        self.assertEqual((status, self.body()), (0, whole), said)
+        self.assertIn("to mind: the server was started again", said)
+
+    def test_in_vain(self) -> None:
+        """A server that never comes to an answer isn't started for ever, nor is one over the time."""
+        rows: dict[str, list[str]] = {
+            "9 times without an answer": [],
+            "not answered within 0.1 s": ["--seconds", "0.1"],
+        }
+        for text, words in rows.items():
+            with self.subTest(text=text):
+                status, said = self.stood_in(*words, FAULT="end * * 2")
+                self.assertEqual(status, 1, said)
+                self.assertIn(text, said)
+
+    def test_memory(self) -> None:
+        words = ("--megabytes", "150", "--patience", "20")
+        status, said = self.stood_in(*words, FAULT="memory definition missing always")
+        self.assertEqual(status, 1, said)
+        self.assertIn("the server took more than 150 MB of memory, twice", said)
+
+    def test_at_the_start(self) -> None:
+        """A server that doesn't start is one line, and OUT stays as it was."""
+        whole = self.whole()
+        rows = {
+            "--server=true": "the server ended",
+            "--server=cat": "it doesn't answer as a language server does",
+            "--server=/no/server": "which isn't installed",
+            "--package=api": "--package api: it's 'MANAGER NAME VERSION'",
+        }
+        for word, text in rows.items():
+            with self.subTest(word=word):
+                status, said = self.index(word, "--patience", "2")
+                self.assertEqual((status, self.body(), said.count("\n")), (2, whole, 0), said)
+                self.assertIn(text, said)
+
+    def test_signal(self) -> None:
+        """What it started ends with it, and nothing of its files stays."""
+        child, work = os.path.join(self.home, "child"), os.path.join(self.home, "work")
+        os.mkdir(work)
+        variables = {"CHILD": child, "TMPDIR": work, "FAULT": "hang definition * always"}
+        variables["FAILED"] = mark = os.path.join(self.home, "failed")
+        words = [*command("index"), "--server", SERVER, self.folder, self.out]
+        with subprocess.Popen(
+            words, env={**os.environ, **variables}, stderr=subprocess.PIPE, text=True
+        ) as run:
+            wait_for(lambda: os.path.exists(mark))
+            run.terminate()
+            said = run.communicate(timeout=20)[1]
+        self.assertEqual(run.returncode, 128 + signal.SIGTERM)
+        self.assertTrue(said.endswith("codenav index: ended by SIGTERM\n"), said)
+        with open(child, encoding="ascii") as file:
+            numbers = file.read().split()
+        self.assertEqual(len(numbers), 2)
+        wait_for(lambda: not any(map(is_running, numbers)))
+        self.assertEqual((os.listdir(work), os.path.exists(self.out)), ([], False))
+
+
+class NoLanguage(OnFolder):
+    files = {"notes.txt": "int both() {}\n"}
+
+    def test_nothing_known(self) -> None:
+        status, said = self.stood_in()
+        self.assertEqual((status, os.path.exists(self.out)), (2, False))
+        self.assertIn("no file of a language that is known here", said)
+
+
+@unittest.skipUnless(shutil.which("clangd"), "clangd isn't installed")
+class Clangd(OnFolder):
+    files = {
+        "include/api.h": "#define LIMIT 7\nenum kind { SMALL };\nstruct box { enum kind kind; };\nint both(struct box *);\n",
+        "src/one.c": """#include "api.h"
+#define TWICE(x) both(x) + both(x)
+#if 0
+int other = both(0);
+#endif
+int first(struct box *box) {
+  return both(box) + LIMIT + box->kind;
+}
+""",
+        "src/two.c": '#include "api.h"\nint both(struct box *box) {\n  return box->kind == SMALL;\n}\n',
+        "api.pc.in": "",
+        "configure.ac": "AC_INIT([api], [1.2])\n",
+    }
+
+    def test_answers(self) -> None:
+        """Definitions in another file, headers of the folder without a word on how it's compiled; and
+        nothing in code that isn't compiled and in the body of a macro."""
+        status, said = self.index()
+        self.assertEqual(status, 0, said)
+        self.assertIn("to mind: no compile_commands.json", said)
+        self.assert_answers(
+            {
+                ("definition", "src/one.c", 6, 9): ["two.c:1"],
+                ("definition", "src/one.c", 6, 21): ["api.h:0"],
+                ("definition", "src/one.c", 6, 34): ["api.h:2"],
+                ("definition", "src/one.c", 3, 12): [],
+                ("definition", "src/one.c", 1, 17): [],
+                ("declaration", "src/one.c", 6, 9): ["api.h:3"],
+                ("references", "include/api.h", 1, 12): ["api.h:1", "two.c:2"],
+                ("references", "include/api.h", 3, 4): ["api.h:3", "one.c:6", "two.c:1"],
+            }
+        )
+        names = {one["identifier"] for one in vertices(self.out, "moniker")}
+        wanted = {"LIMIT", "kind", "kind.SMALL", "box", "box.kind", "both"}
+        self.assertEqual(names, {f"api.h:{name}" for name in wanted})
+
+
+if __name__ == "__main__":
+    unittest.main()
