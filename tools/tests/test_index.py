@@ -13,11 +13,12 @@ import sys
 import tempfile
 import time
 import unittest
-from contextlib import redirect_stderr
+from contextlib import redirect_stderr, redirect_stdout, suppress
 from typing import Any, Callable
 from unittest import mock
 
 from codenav.cli.index import INDEX
+from codenav.cli.publish import PUBLISH
 from codenav.client.projects import put
 from codenav.texts.places import uri_of
 from tests.servers import TOP, OnServer, command
@@ -98,6 +99,10 @@ class OnFolder(OnServer):
         with open(self.out, "rb") as body:
             answer = put(self.url, "app", "lsif", body, "key", "2", False)
         self.assertEqual(answer.status, 200, answer)
+        self.assert_answer(rows)
+
+    def assert_answer(self, rows: dict[tuple[str, str, int, int], Any]) -> None:
+        """Has a server answer from what was uploaded as rows say."""
         asked = asked_at(self.url, "app")
         for (kind, name, line, character), wanted in rows.items():
             uri = uri_of(os.path.join(self.folder, name), [])
@@ -246,6 +251,58 @@ class NoLanguage(OnFolder):
         status, said = self.stood_in()
         self.assertEqual((status, os.path.exists(self.out)), (2, False))
         self.assertIn("no file of a language that is known here", said)
+
+
+class Published(OnFolder):
+    """`publish` where no indexer is installed: a language server is asked."""
+
+    def publish(self, *programs: str) -> tuple[int, str]:
+        """The status of a call with some programs on the path, and what it says."""
+        path = os.path.join(self.home, "bin")
+        os.makedirs(path, exist_ok=True)
+        for name in ("git", "ctags", "sh", "sort"):
+            with suppress(FileExistsError):
+                os.symlink(shutil.which(name) or "/", os.path.join(path, name))
+        for name in programs:
+            with open(os.path.join(path, name), "w", encoding="utf-8") as file:
+                file.write(f"#!/bin/sh\nexec {SERVER}\n")
+            os.chmod(os.path.join(path, name), 0o755)
+        variables = {"PATH": path, "CODENAV_PROGRAM": self.program}
+        with (
+            mock.patch.dict(os.environ, variables),
+            redirect_stderr(io.StringIO()) as said,
+            redirect_stdout(said),
+        ):
+            status = PUBLISH.main([self.url, "app", self.folder])
+        return status, said.getvalue()
+
+    def test_asked(self) -> None:
+        """With the file that an indexer is chosen by, which is said, and without."""
+        status, said = self.publish("clangd")
+        self.assertEqual(status, 0, said)
+        self.assertIn("definitions: 12 asked", said)
+        self.assertRegex(said, "uploaded app: a dump of [0-9]+ elements, profile 2\n")
+        self.assert_answer({("declaration", "one.c", 1, 9): ["api.h:1"]})
+        with open(
+            os.path.join(self.folder, "compile_commands.json"), "w", encoding="utf-8"
+        ) as file:
+            file.write("[]")
+        status, said = self.publish("clangd")
+        self.assertEqual(status, 0, said)
+        text = "scip-clang would index this, and isn't on the path: a language server is asked"
+        self.assertIn(text, said)
+
+    def test_none(self) -> None:
+        """Without a language server too there are tags, or the fault is the indexer's."""
+        status, said = self.publish()
+        self.assertEqual(status, 0, said)
+        text = "C and C++ would be asked of clangd, which isn't installed (Debian's clangd)"
+        self.assertIn(text, said)
+        with open(os.path.join(self.folder, "go.mod"), "w", encoding="utf-8") as file:
+            file.write("module m\n")
+        status, said = self.publish()
+        self.assertEqual(status, 2)
+        self.assertIn("scip-go would index this, and isn't on the path\n", said)
 
 
 @unittest.skipUnless(shutil.which("clangd"), "clangd isn't installed")

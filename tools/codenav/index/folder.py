@@ -72,10 +72,14 @@ def documents_in(folder: str, notes: Notes) -> Documents:
     return dict(found)
 
 
+class NoLanguage(BadCall):
+    """A folder without a file of a known language."""
+
+
 def servers_of(folder: str, documents: Documents, line: str) -> list[tuple[Language, ServerKind]]:
-    """The languages and their servers. Raises BadCall where one isn't installed, or there's no language."""
+    """The languages and their servers. Raises NoLanguage, or BadCall where one isn't installed."""
     if not documents:
-        raise BadCall(f"{folder}: no file of a language that is known here")
+        raise NoLanguage(f"{folder}: no file of a language that is known here")
     return [(one, installed(one, line)) for one in LANGUAGES if one.name in documents]
 
 
@@ -125,7 +129,9 @@ class Indexing:
             writer.write(uri_of(self.folder, []), self.lines, VERSION)
         self.mind_copies(grouped.symbols)
         if self.own is None:
-            self.mind("the package isn't known (--package), so other projects don't lead here")
+            self.mind(
+                "no package is known (--package of `codenav index`), so other projects don't lead here"
+            )
         files, words = sum(map(len, self.documents.values())), len(self.found.words)
         said = f"{files} files, {words} words, {self.found.empty} of them without a definition"
         return Outcome(said, {}, (*self.minds, *self.notes.all()))

@@ -68,9 +68,13 @@ def named(name: str) -> Indexer:
     raise BadCall(f"no indexer {name!r} is known; --index takes the line by which one is called")
 
 
+class NotInstalled(BadCall):
+    """A checkout whose indexers aren't installed."""
+
+
 def fitting(folder: str) -> Optional[Indexer]:
     """The first known indexer of which the checkout has a mark and this machine the program; None
-    where no mark is there."""
+    where no mark is there. Raises NotInstalled."""
     missing = []
     for indexer in INDEXERS:
         if any(os.path.isfile(os.path.join(folder, mark)) for mark in indexer.marks):
@@ -78,7 +82,9 @@ def fitting(folder: str) -> Optional[Indexer]:
                 return indexer
             missing.append(indexer.program())
     if missing:
-        raise BadCall(f"{folder}: {' or '.join(missing)} would index this, and isn't on the path")
+        raise NotInstalled(
+            f"{folder}: {' or '.join(missing)} would index this, and isn't on the path"
+        )
     return None
 
 

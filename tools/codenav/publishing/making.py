@@ -17,7 +17,10 @@ from codenav.dumps.prepare.plan import Options
 from codenav.dumps.prepare.prepare import prepare
 from codenav.dumps.scip.options import ScipOptions
 from codenav.faults import BadCall, NotADump
-from codenav.index.indexers import fitting, indexed, named
+from codenav.index.folder import TO_MIND
+from codenav.index.folder import How as IndexHow
+from codenav.index.folder import Indexing, NoLanguage
+from codenav.index.indexers import NotInstalled, fitting, indexed, named
 from codenav.index.tags_file import LEFT_OUT as TAGS_LEFT_OUT
 from codenav.index.tags_file import tagged
 from codenav.kinds import KINDS
@@ -72,6 +75,7 @@ class Making:
         self.is_set, self.profile = how.set or target.is_set, how.profile
         self.where, self.outcome, self.left_out = uri_of(folder, []), Outcome(), list[Row]()
         self.recorded: Optional[Prepared] = None
+        self.lacking = MISSING["lsif"]
         self.commit, fault = indexed_at(folder, how.revision)
         self.looks_again = not fault
         if fault:
@@ -85,7 +89,7 @@ class Making:
             self.profile = self.profile or profile_of(dump)
             bodies.append(Body(self.target.project, "lsif", dump, self.profile))
         elif not self.how.no_index:
-            self.left_out.append(Row("dump", None, MISSING["lsif"]))
+            self.left_out.append(Row("dump", None, self.lacking))
         tags = "" if self.how.no_tags else self.tags(work, bool(raw) or self.how.no_index)
         if tags:
             bodies.append(Body(self.target.project, "tags", tags, None))
@@ -111,13 +115,36 @@ class Making:
             return "" if self.how.no_index else self.how.dump
         line = self.how.index
         if not line:
-            indexer = named(self.how.indexer) if self.how.indexer else fitting(self.folder)
+            try:
+                indexer = named(self.how.indexer) if self.how.indexer else fitting(self.folder)
+            except NotInstalled as fault:
+                return self.asked_dump(work, fault)
             if indexer is None:
-                return ""
+                return self.asked_dump(work, None)
             line = indexer.line
         self.shows.begin(f"indexed by {line}")
         path = indexed(line, self.folder, self.target.project, work, self.shows)
         self.shows.end(f"{os.path.getsize(path)} bytes")
+        return path
+
+    def asked_dump(self, work: str, fault: Optional[NotInstalled]) -> str:
+        """The file with the dump that is made by asking language servers, where no indexer is
+        installed; empty where there's none of these either. Raises the fault there."""
+        try:
+            indexing = Indexing(self.folder, IndexHow(), self.shows)
+        except BadCall as other:
+            if fault is not None:
+                raise fault from None
+            self.lacking = MISSING["lsif"] if isinstance(other, NoLanguage) else str(other)
+            return ""
+        if fault is not None:
+            self.shows.warn(f"{fault}: a language server is asked")
+        path = os.path.join(work, "asked.lsif")
+        outcome = indexing.write(path, work)
+        for note in outcome.notes:
+            if note.kind == TO_MIND:
+                self.shows.warn(str(note))
+        self.left_out += rows_of(outcome, "2")
         return path
 
     def prepared_dump(self, raw: str, work: str) -> str:
