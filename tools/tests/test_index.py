@@ -45,6 +45,13 @@ def wait_for(is_so: Callable[[], bool]) -> None:
         time.sleep(0.05)
 
 
+def stood_in_as(path: str) -> None:
+    """Writes a program that calls the server that stands in."""
+    with open(path, "w", encoding="utf-8") as file:
+        file.write(f"#!/bin/sh\nexec {SERVER}\n")
+    os.chmod(path, 0o755)
+
+
 def is_running(number: str) -> bool:
     """Whether a process runs still."""
     try:
@@ -244,6 +251,30 @@ class Failing(OnFolder):
         self.assertEqual((os.listdir(work), os.path.exists(self.out)), ([], False))
 
 
+class TwoLanguages(OnFolder):
+    files = {**FILES, "three.go": "int three() {\n return three() + both();\n}\n"}
+
+    def test_both(self) -> None:
+        """Each language is asked of its own server, and a server that is named of one alone."""
+        status, said = self.stood_in()
+        self.assertEqual((status, os.path.exists(self.out)), (2, False))
+        self.assertIn("--server is asked of one language, and here are C and C++ and Go", said)
+        path = os.path.join(self.home, "bin")
+        os.mkdir(path)
+        for name in ("clangd", "gopls"):
+            stood_in_as(os.path.join(path, name))
+        status, said = self.index(PATH=f"{path}:{os.environ['PATH']}")
+        self.assertEqual(status, 0, said)
+        self.assert_answers(
+            {
+                ("definition", "one.c", 1, 9): ["two.c:0"],
+                ("definition", "three.go", 1, 8): ["three.go:0"],
+                ("definition", "three.go", 1, 18): [],
+                ("hover", "three.go", 1, 8): "about three",
+            }
+        )
+
+
 class NoLanguage(OnFolder):
     files = {"notes.txt": "int both() {}\n"}
 
@@ -264,9 +295,7 @@ class Published(OnFolder):
             with suppress(FileExistsError):
                 os.symlink(shutil.which(name) or "/", os.path.join(path, name))
         for name in programs:
-            with open(os.path.join(path, name), "w", encoding="utf-8") as file:
-                file.write(f"#!/bin/sh\nexec {SERVER}\n")
-            os.chmod(os.path.join(path, name), 0o755)
+            stood_in_as(os.path.join(path, name))
         variables = {"PATH": path, "CODENAV_PROGRAM": self.program}
         with (
             mock.patch.dict(os.environ, variables),
@@ -344,6 +373,53 @@ int first(struct box *box) {
         names = {one["identifier"] for one in vertices(self.out, "moniker")}
         wanted = {"LIMIT", "kind", "kind.SMALL", "box", "box.kind", "both"}
         self.assertEqual(names, {f"api.h:{name}" for name in wanted})
+
+
+@unittest.skipUnless(shutil.which("gopls") and shutil.which("go"), "gopls isn't installed")
+class Gopls(OnFolder):
+    files = {
+        "go.mod": "module example.org/m\n\ngo 1.19\n",
+        "shape/shape.go": """package shape
+
+type Shape interface{ Area() int }
+
+type Box struct{ Side int }
+
+func (b *Box) Area() int { return b.Side * b.Side }
+
+func local() int { return 0 }
+""",
+        "main.go": """package main
+
+import "example.org/m/shape"
+
+func main() {
+	var s shape.Shape = &shape.Box{Side: 2}
+	println(s.Area())
+}
+""",
+    }
+
+    def test_answers(self) -> None:
+        """Across packages, from an interface to what implements it; with exported names."""
+        status, said = self.index("--package", "gomod example.org/m v1.0.0")
+        self.assertEqual(status, 0, said)
+        self.assert_answers(
+            {
+                ("definition", "main.go", 5, 13): ["shape.go:2"],
+                ("definition", "main.go", 5, 32): ["shape.go:4"],
+                ("definition", "main.go", 5, 28): ["shape.go:4"],
+                ("definition", "main.go", 6, 11): ["shape.go:2"],
+                ("implementation", "main.go", 6, 11): ["shape.go:6"],
+                ("implementation", "main.go", 5, 13): ["shape.go:4"],
+                ("references", "shape/shape.go", 4, 17): [
+                    *("main.go:5", "shape.go:4", "shape.go:6", "shape.go:6")
+                ],
+            }
+        )
+        names = {one["identifier"] for one in vertices(self.out, "moniker")}
+        wanted = {"Shape", "Shape.Area", "Box", "Box.Side", "Box.Area"}
+        self.assertEqual(names, {f"example.org/m/shape.{name}" for name in wanted})
 
 
 if __name__ == "__main__":

@@ -66,8 +66,16 @@ class Answers:
     names: dict[tuple[str, int, int], Name] = field(default_factory=dict)
     hovers: dict[Place, Any] = field(default_factory=dict)
     implementations: dict[Place, list[Place]] = field(default_factory=dict)
-    errors: dict[str, list[str]] = field(default_factory=dict)
     empty: int = 0
+
+    def add(self, other: "Answers") -> None:
+        """Adds what another server answered, of other documents."""
+        self.words.update(other.words)
+        self.leads.update(other.leads)
+        self.names.update(other.names)
+        self.hovers.update(other.hovers)
+        self.implementations.update(other.implementations)
+        self.empty += other.empty
 
 
 def place_in(uri: str, span: Any) -> Place:

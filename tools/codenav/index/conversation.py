@@ -11,6 +11,10 @@ from codenav.index.process import Limits, Lost, Process
 from codenav.lsp.jsonrpc import Message
 from codenav.texts.places import uri_of
 
+TOKENS = (
+    "namespace type class enum interface struct typeParameter parameter variable property enumMember "
+    "event function method macro keyword modifier comment string number regexp operator decorator"
+)
 LINKS = {"linkSupport": True}
 CAPABILITIES = {
     "general": {"positionEncodings": ["utf-16"]},
@@ -22,8 +26,9 @@ CAPABILITIES = {
         "documentSymbol": {"hierarchicalDocumentSymbolSupport": True},
         "publishDiagnostics": {},
         "semanticTokens": {
+            "dynamicRegistration": True,
             "requests": {"full": True},
-            "tokenTypes": [],
+            "tokenTypes": TOKENS.split(),
             "tokenModifiers": [],
             "formats": ["relative"],
         },
@@ -201,6 +206,10 @@ class Conversation:
             self.errors[uri] = [
                 str(one.get("message")) for one in found if one.get("severity", ERROR) == ERROR
             ]
+        elif method == "client/registerCapability":
+            for one in params.get("registrations", ()):
+                if isinstance(one, dict) and one.get("method") == "textDocument/semanticTokens":
+                    self.offers["semanticTokensProvider"] = one.get("registerOptions")
         if "id" in message and method is not None:
             items = params.get("items", ()) if method == "workspace/configuration" else ()
             result = [self.settings for _ in items] if items else None

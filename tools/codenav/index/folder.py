@@ -80,6 +80,8 @@ def servers_of(folder: str, documents: Documents, line: str) -> list[tuple[Langu
     """The languages and their servers. Raises NoLanguage, or BadCall where one isn't installed."""
     if not documents:
         raise NoLanguage(f"{folder}: no file of a language that is known here")
+    if line and len(documents) > 1:
+        raise BadCall(f"--server is asked of one language, and here are {' and '.join(documents)}")
     return [(one, installed(one, line)) for one in LANGUAGES if one.name in documents]
 
 
@@ -138,7 +140,6 @@ class Indexing:
 
     def ask(self, language: Language, talk: Conversation) -> None:
         """Asks a server of its documents."""
-        asking = Asking(talk, self.found, self.notes, self.shows)
         manifests = [os.path.join(self.folder, name) for name in language.manifests]
         if not any(map(os.path.exists, manifests)):
             self.mind(language.without)
@@ -149,9 +150,12 @@ class Indexing:
         if not talk.settle():
             self.notes.leave_out("the server wasn't ready, and was asked all the same", self.folder)
         self.shows.end(f"{len(documents)} files")
+        found = Answers()
+        asking = Asking(talk, found, self.notes, self.shows)
         asking.documents([document.uri for document in documents])
         self.ask_outside(asking)
-        asking.symbols(Grouped(self.found).tags())
+        asking.symbols(Grouped(found).tags())
+        self.found.add(found)
         if talk.restarts:
             self.mind(f"the server was started again, {talk.restarts} times: {talk.kind.line}")
         for uri in [document.uri for document in documents]:
@@ -161,7 +165,7 @@ class Indexing:
 
     def ask_outside(self, asking: Asking) -> None:
         """Asks for the names in documents of other packages that are on the server."""
-        led = {place.uri for places in self.found.leads.values() for place in places}
+        led = {place.uri for places in asking.found.leads.values() for place in places}
         outside = [uri for uri in sorted(led) if self.monikers.is_elsewhere(uri)]
         for uri in outside:
             known = language_of(uri)

@@ -21,6 +21,11 @@ def c_flags(folder: str, identifiers: set[str]) -> dict[str, Any]:
     return {"fallbackFlags": [*(["-xc"] if identifiers == {"c"} else []), *flags]}
 
 
+def go_settings(_: str, __: set[str]) -> dict[str, Any]:
+    """The settings of gopls: it has tokens where that's asked for."""
+    return {"semanticTokens": True}
+
+
 class ServerKind(NamedTuple):
     """A language server: how it's called, Debian's package of it, and its settings for a folder and
     the protocol's identifiers of the languages there. It's ready when it has sent the diagnostics of each open document, or when it has been silent for so many
@@ -54,6 +59,13 @@ LANGUAGES = (
         ),
         ("compile_commands.json", "compile_flags.txt", "build/compile_commands.json"),
         "no compile_commands.json (`bear -- make` writes it): the server guesses how files are compiled",
+    ),
+    Language(
+        "Go",
+        {".go": "go"},
+        ServerKind("gopls", "gopls and golang-go", go_settings),
+        ("go.mod", "go.work"),
+        "no go.mod: the server takes each folder for a package without a name",
     ),
 )
 
