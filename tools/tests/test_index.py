@@ -19,7 +19,7 @@ from unittest import mock
 
 from codenav.cli.index import INDEX
 from codenav.cli.publish import PUBLISH
-from codenav.client.projects import put
+from codenav.client.projects import fresh_key, put
 from codenav.texts.places import uri_of
 from tests.servers import TOP, OnServer, command
 from tests.test_set_service import asked_at
@@ -103,10 +103,14 @@ class OnFolder(OnServer):
     def assert_answers(self, rows: dict[tuple[str, str, int, int], Any]) -> None:
         """Has a server answer from what was written as rows say: by kind, file, line and character the
         places, each as its file and its line, or the contents of a hover."""
-        with open(self.out, "rb") as body:
-            answer = put(self.url, "app", "lsif", body, "key", "2", False)
-        self.assertEqual(answer.status, 200, answer)
+        self.upload("app")
         self.assert_answer(rows)
+
+    def upload(self, project: str) -> None:
+        """Uploads what was written."""
+        with open(self.out, "rb") as body:
+            answer = put(self.url, project, "lsif", body, fresh_key("lsif"), "2", False)
+        self.assertEqual(answer.status, 200, answer)
 
     def assert_answer(self, rows: dict[tuple[str, str, int, int], Any]) -> None:
         """Has a server answer from what was uploaded as rows say."""
@@ -375,6 +379,55 @@ int first(struct box *box) {
         self.assertEqual(names, {f"api.h:{name}" for name in wanted})
 
 
+@unittest.skipUnless(shutil.which("clangd"), "clangd isn't installed")
+class Joined(OnFolder):
+    """A library, and a program with an installed copy of its header, as two projects."""
+
+    files = {
+        "lib/include/lib.h": "int both(int);\n#define LIMIT 7\n",
+        "lib/src/lib.c": '#include "lib.h"\nint both(int a) { return a; }\n',
+        "lib/lib.pc.in": "",
+        "lib/configure.ac": "AC_INIT([lib], [1.2])\n",
+        "sys/include/lib.h": "int both(int);\n#define LIMIT 7\n",
+        "sys/lib.pc": "Version: 1.2\n",
+        "user/main.c": "#include <lib.h>\nint main(void) { return both(LIMIT); }\n",
+        "user/compile_flags.txt": "-I../sys/include\n",
+    }
+
+    def setUp(self) -> None:
+        super().setUp()
+        whole, path = self.folder, os.path.join(self.home, "bin")
+        os.mkdir(path)
+        said = {"-S": "lib-dev: $2", "-L": os.path.join(whole, "sys", "lib.pc")}
+        cases = "\n".join(f'{option}) echo "{text}";;' for option, text in said.items())
+        with open(os.path.join(path, "dpkg"), "w", encoding="utf-8") as file:
+            file.write(f"#!/bin/sh\ncase $1 in\n{cases}\nesac\n")
+        os.chmod(os.path.join(path, "dpkg"), 0o755)
+        self.path = f"{path}:{os.environ['PATH']}"
+        rows: dict[str, list[str]] = {"lib": [], "app": ["--on-server", "lib"]}
+        for project, words in rows.items():
+            self.folder = os.path.join(whole, "user" if project == "app" else project)
+            status, said_of = self.index(*words, PATH=self.path)
+            self.assertEqual(status, 0, said_of)
+            self.upload(project)
+
+    def test_both_ways(self) -> None:
+        """A use leads to the library's project alone, and that knows the use."""
+        self.assert_answer(
+            {
+                ("definition", "main.c", 1, 24): ["lib.c:1"],
+                ("definition", "main.c", 1, 29): ["lib.h:1"],
+                ("references", "main.c", 1, 24): ["lib.c:1", "lib.h:0", "main.c:1"],
+            }
+        )
+
+    def test_not_told(self) -> None:
+        """A use of a package that isn't told to be on the server leads to the installed copy."""
+        status, said = self.index(PATH=self.path)
+        self.assertEqual(status, 0, said)
+        self.assert_answers({("definition", "main.c", 1, 24): ["lib.h:0"]})
+
+
 @unittest.skipUnless(shutil.which("gopls") and shutil.which("go"), "gopls isn't installed")
 class Gopls(OnFolder):
     files = {
@@ -420,6 +473,32 @@ func main() {
         names = {one["identifier"] for one in vertices(self.out, "moniker")}
         wanted = {"Shape", "Shape.Area", "Box", "Box.Side", "Box.Area"}
         self.assertEqual(names, {f"example.org/m/shape.{name}" for name in wanted})
+
+    def test_joined(self) -> None:
+        """A use of a module that is on the server leads to its project."""
+        whole, go = self.folder, 'package user\n\nimport "example.org/m/shape"\n'
+        os.mkdir(os.path.join(self.home, "user"))
+        for name, text in {
+            "user.go": f"{go}\nvar Box = shape.Box{{Side: 1}}\n",
+            "go.mod": "module example.org/user\n\ngo 1.19\n\nrequire example.org/m v1.0.0\n"
+            f"replace example.org/m => {whole}\n",
+        }.items():
+            with open(os.path.join(self.home, "user", name), "w", encoding="utf-8") as file:
+                file.write(text)
+        status, said = self.index("--package", "gomod example.org/m v1.0.0")
+        self.assertEqual(status, 0, said)
+        self.upload("shapes")
+        self.folder = os.path.join(self.home, "user")
+        status, said = self.index("--on-server", "example.org/m", GOFLAGS="-mod=mod", GOPROXY="off")
+        self.assertEqual(status, 0, said)
+        self.assert_answers(
+            {
+                ("definition", "user.go", 4, 16): ["shape.go:4"],
+                ("definition", "user.go", 4, 20): ["shape.go:4"],
+            }
+        )
+        uris = {one["uri"] for one in vertices(self.out, "document")}
+        self.assertEqual(uris, {uri_of(os.path.join(self.folder, "user.go"), [])})
 
 
 if __name__ == "__main__":

@@ -48,12 +48,12 @@ FORMLESS = (KeyError, TypeError, ValueError, IndexError, AttributeError)
 
 class Name(NamedTuple):
     """A name that a document declares: the names around it, its kind by the protocol's number, and
-    how many lines its declaration has."""
+    how many lines and, on the last one, UTF-16 code units its declaration has."""
 
     around: tuple[str, ...]
     name: str
     kind: int
-    lines: int
+    size: tuple[int, int]
 
 
 @dataclass(slots=True)
@@ -116,11 +116,12 @@ def names_in(uri: str, found: Any, around: tuple[str, ...] = ()) -> Iterator[tup
     seen = Counter[str]()
     for one in found or ():
         place = place_in(uri, one.get("selectionRange") or one["location"]["range"])
-        whole = one.get("range", {"start": {"line": 0}, "end": {"line": 0}})
+        whole = place_in(uri, one["range"]) if "range" in one else place
         seen[one["name"]] += 1
         number = f"#{seen[one['name']]}" if seen[one["name"]] > 1 else ""
-        name, lines = one["name"] + number, whole["end"]["line"] - whole["start"]["line"]
-        yield place, Name(around, name, one["kind"], lines)
+        name, lines = one["name"] + number, whole.end_line - whole.line
+        size = lines, whole.end - (0 if lines else whole.start)
+        yield place, Name(around, name, one["kind"], size)
         yield from names_in(uri, one.get("children"), (*around, name))
 
 

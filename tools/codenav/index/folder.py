@@ -193,4 +193,4 @@ def index(folder: str, out: str, how: How, shows: Shows) -> Outcome:
         with opened_dump(raw) as source:
             assert isinstance(source, Source)
             made = prepare(source, out, Options(strip=True, profile="2"), shows).outcome
-    return Outcome(f"{said.said}; {made.said}", made.counts, (*said.notes, *made.notes), made.over)
+    return Outcome(said.said, made.counts, (*said.notes, *made.notes), made.over)

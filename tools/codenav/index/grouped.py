@@ -3,6 +3,7 @@
 from collections import Counter, defaultdict
 
 from codenav.index.asked import Answers, Place
+from codenav.index.languages import is_header
 
 
 class Grouped:
@@ -31,14 +32,20 @@ class Grouped:
             return Place(place.uri, 0, 0, 0, 0)
         return self.found.words.get(place.at, place)
 
-    def lines(self, place: Place) -> int:
-        """How many lines the declaration at a place has."""
+    def size(self, place: Place) -> tuple[int, int]:
+        """How large the declaration at a place is, in lines and code units."""
         name = self.found.names.get(place.at)
-        return name.lines if name else 0
+        return name.size if name else (0, 0)
 
     def pair(self) -> None:
         """Has a definition that leads to its declaration lead to itself. Of two that lead to each other
-        it's the one that more other words lead to, or else the one of more lines."""
+        it's the one that more other words lead to, or else the one in no header, or else the larger.
+        """
+
+        def order(place: Place) -> tuple[int, bool, int, int]:
+            lines, units = self.size(place)
+            return -weight[place], is_header(place.uri), -lines, -units
+
         weight = Counter(
             place for word, places in self.leads.items() for place in places if place != word
         )
@@ -46,7 +53,7 @@ class Grouped:
             for other in places:
                 back = self.leads.get(other, [])
                 if word < other and word in back and other not in back and word not in places:
-                    both = sorted((word, other), key=lambda one: (-weight[one], -self.lines(one)))
+                    both = sorted((word, other), key=order)
                     self.leads[both[0]] = [both[0]]
                     self.declared[both[0]].append(both[1])
 

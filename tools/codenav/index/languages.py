@@ -7,6 +7,8 @@ from typing import Any, Callable, Mapping, NamedTuple, Optional
 
 from codenav.faults import BadCall
 
+HEADERS = (".h", ".hh", ".hpp", ".hxx", "")
+
 
 def no_settings(_: str, __: set[str]) -> dict[str, Any]:
     """The settings of a server that needs none."""
@@ -68,6 +70,11 @@ LANGUAGES = (
         "no go.mod: the server takes each folder for a package without a name",
     ),
 )
+
+
+def is_header(path: str) -> bool:
+    """Whether a file is a header of C or C++, some of whose have no suffix."""
+    return os.path.splitext(path)[1] in HEADERS
 
 
 def language_of(path: str) -> Optional[tuple[Language, str]]:

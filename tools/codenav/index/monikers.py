@@ -5,11 +5,11 @@ import re
 from typing import Callable, NamedTuple, Optional, Sequence
 
 from codenav.index.asked import Name, Place
+from codenav.index.languages import is_header
 from codenav.index.packages import Package, go_modules, package_of_header
 from codenav.outcome import MENDED, Notes
 from codenav.texts.places import path_of
 
-HEADERS = (".h", ".hh", ".hpp", ".hxx", "")
 DEFINE = re.compile(r"\s*#\s*define\s+$")
 RECEIVER = re.compile(r"\(?\*?(\w+)\)?\.")
 
@@ -41,7 +41,7 @@ def identifier_of(package: Package, path: str, names: Sequence[str]) -> Optional
             return None
         of = "" if package.name == "std" else package.name
         return "/".join(filter(None, [of, os.path.dirname(path)])) + "." + ".".join(parts)
-    if os.path.splitext(path)[1] not in HEADERS:
+    if not is_header(path):
         return None
     return f"{included(path)}:{'.'.join(names)}"
 
@@ -80,7 +80,7 @@ class Monikers:
                 if path.startswith(f"{folder}/") and package.name in self.on_server:
                     return package, os.path.relpath(path, folder)
             return None
-        header = package_of_header(path) if os.path.splitext(path)[1] in HEADERS else None
+        header = package_of_header(path) if is_header(path) else None
         if header is None or header.name not in self.on_server:
             return None
         plain = re.sub("/include/[^/]+-linux-gnu/", "/include/", path)
