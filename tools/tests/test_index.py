@@ -4,6 +4,7 @@ over clangd where that is installed."""
 import io
 import json
 import os
+import random
 import re
 import shlex
 import shutil
@@ -43,6 +44,12 @@ def wait_for(is_so: Callable[[], bool]) -> None:
         if time.monotonic() > end:
             raise AssertionError(f"not so within {SECONDS} s")
         time.sleep(0.05)
+
+
+def line_in(folder: str, file: str, name: str) -> int:
+    """The line of a file that declares a name."""
+    with open(os.path.join(folder, file), encoding="utf-8") as text:
+        return next(at for at, line in enumerate(text) if line.startswith(f"int {name}("))
 
 
 def stood_in_as(path: str) -> None:
@@ -223,8 +230,11 @@ class Failing(OnFolder):
         whole = self.whole()
         rows = {
             "--server=true": "the server ended",
+            "--server=sh -c 'echo no such flag >&2'": "no such flag",
             "--server=cat": "it doesn't answer as a language server does",
             "--server=/no/server": "which isn't installed",
+            "--megabytes=0": "--megabytes 0: it's more than 0",
+            "--seconds=nan": "--seconds nan: it's more than 0",
             "--package=api": "--package api: it's 'MANAGER NAME VERSION'",
         }
         for word, text in rows.items():
@@ -380,6 +390,82 @@ int first(struct box *box) {
 
 
 @unittest.skipUnless(shutil.which("clangd"), "clangd isn't installed")
+class OddNames(OnFolder):
+    files = {
+        "a b/(ü)+&=@.h": "int both(void);\n",
+        "a b/ö.c": '#include "(ü)+&=@.h"\n/* \U0001f600 */ int both(void) { return 1; }\n',
+        "latin.c": "int both(void);\nint one(void) { return /* é */ both(); }\n",
+    }
+
+    def test_names_and_columns(self) -> None:
+        """Addresses that are written in several ways, and characters of two code units."""
+        status, said = self.index("--patience", "9")
+        self.assertEqual(status, 0, said)
+        self.assert_answers(
+            {
+                ("definition", "latin.c", 1, 31): ["%C3%B6.c:1"],
+                ("definition", "a b/(ü)+&=@.h", 0, 4): ["%C3%B6.c:1"],
+                ("declaration", "a b/ö.c", 1, 14): ["(%C3%BC)+&=@.h:0"],
+                ("definition", "a b/ö.c", 1, 13): ["%C3%B6.c:1"],
+                ("definition", "a b/ö.c", 1, 12): [],
+            }
+        )
+        self.assertEqual(sorted(os.listdir(self.folder)), ["a b", "latin.c"])
+
+
+@unittest.skipUnless(shutil.which("clangd"), "clangd isn't installed")
+class ByChance(OnFolder):
+    """Programs made by chance, whose makers know where each name is defined and used."""
+
+    files = {}
+
+    def test_programs(self) -> None:
+        for seed in range(3):
+            chance = random.Random(seed)
+            defined, uses = self.made(chance)
+            status, said = self.index()
+            self.assertEqual(status, 0, said)
+            rows: dict[tuple[str, str, int, int], Any] = {}
+            for name, (file, line) in defined.items():
+                declared = f"all.h:{line_in(self.folder, 'all.h', name)}"
+                places = sorted(
+                    [f"{file}:{line}", declared, *(f"{f}:{at}" for f, at, _ in uses[name])]
+                )
+                rows["references", file, line, 4] = places
+                for used, at, column in uses[name]:
+                    rows["definition", used, at, column] = [f"{file}:{line}"]
+                    rows["declaration", used, at, column] = [declared]
+            with self.subTest(seed=seed):
+                self.assert_answers(rows)
+
+    def made(
+        self, chance: random.Random
+    ) -> tuple[dict[str, tuple[str, int]], dict[str, list[Any]]]:
+        """Writes a program; answers where its functions are defined, and where each is used."""
+        names = [f"f{number}" for number in range(12)]
+        defined, texts = dict[str, tuple[str, int]](), dict[str, list[str]]()
+        uses: dict[str, list[tuple[str, int, int]]] = {name: [] for name in names}
+        for name in names:
+            file = f"s{chance.randrange(4)}.c"
+            lines = texts.setdefault(file, ['#include "all.h"'])
+            lines += [f"// {chance.choice(names)}"] * chance.randrange(2)
+            defined[name] = file, len(lines)
+            text = f"int {name}(int a) {{ return a"
+            for other in chance.choices(names, k=chance.randrange(4)):
+                uses[other].append((file, len(lines), len(text) + 3))
+                text += f" + {other}(a)"
+            lines.append(text + "; }")
+        chance.shuffle(names)
+        texts["all.h"] = [f"int {name}(int a);" for name in names]
+        shutil.rmtree(self.folder, ignore_errors=True)
+        os.mkdir(self.folder)
+        for file, lines in texts.items():
+            with open(os.path.join(self.folder, file), "w", encoding="utf-8") as out:
+                out.write("\n".join([*lines, ""]))
+        return defined, uses
+
+
+@unittest.skipUnless(shutil.which("clangd"), "clangd isn't installed")
 class Joined(OnFolder):
     """A library, and a program with an installed copy of its header, as two projects."""
 
@@ -391,6 +477,7 @@ class Joined(OnFolder):
         "sys/include/lib.h": "int both(int);\n#define LIMIT 7\n",
         "sys/lib.pc": "Version: 1.2\n",
         "user/main.c": "#include <lib.h>\nint main(void) { return both(LIMIT); }\n",
+        "user/old/lib.h": "",
         "user/compile_flags.txt": "-I../sys/include\n",
     }
 
@@ -425,6 +512,9 @@ class Joined(OnFolder):
         """A use of a package that isn't told to be on the server leads to the installed copy."""
         status, said = self.index(PATH=self.path)
         self.assertEqual(status, 0, said)
+        self.assertRegex(
+            said, "to mind: .*/sys/include/lib.h is led to, and .*/old/lib.h has its name"
+        )
         self.assert_answers({("definition", "main.c", 1, 24): ["lib.h:0"]})
 
 

@@ -5,6 +5,7 @@ from dataclasses import dataclass
 
 from codenav.cli.command import Command
 from codenav.cli.show import Shown
+from codenav.faults import BadCall
 from codenav.index.folder import How, index
 from codenav.index.languages import LANGUAGES
 from codenav.index.process import Limits
@@ -55,6 +56,9 @@ def add_index(parser: argparse.ArgumentParser) -> None:
 
 def run_index(call: IndexCall) -> int:
     """Indexes a folder; answers 1 where something was left out."""
+    for name in NUMBERS:
+        if not getattr(call, name) > 0:
+            raise BadCall(f"--{name} {getattr(call, name)}: it's more than 0")
     call.limits = Limits(call.patience, call.seconds, call.megabytes)
     with Shown("codenav index", True) as shows:
         outcome = index(call.folder, call.output, call, shows)

@@ -5,6 +5,7 @@ import time
 from collections import deque
 from typing import Any, BinaryIO, Iterable, Iterator, NamedTuple, Optional
 
+from codenav.addresses import spelled
 from codenav.faults import BadCall
 from codenav.index.languages import ServerKind
 from codenav.index.process import Limits, Lost, Process
@@ -201,7 +202,7 @@ class Conversation:
             (self.active.discard if is_end else self.active.add)(str(params.get("token")))
         elif method == "textDocument/publishDiagnostics":
             found = [one for one in params.get("diagnostics", ()) if isinstance(one, dict)]
-            uri = str(params.get("uri"))
+            uri = spelled(str(params.get("uri")))
             self.diagnosed.add(uri)
             self.errors[uri] = [
                 str(one.get("message")) for one in found if one.get("severity", ERROR) == ERROR

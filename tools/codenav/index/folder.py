@@ -16,6 +16,7 @@ from codenav.files import whole_file
 from codenav.index.asked import Answers, Asking, Place
 from codenav.index.conversation import Conversation
 from codenav.index.grouped import Grouped
+from codenav.index.indexers import tail_of
 from codenav.index.languages import LANGUAGES, Language, ServerKind, installed, language_of
 from codenav.index.monikers import Monikers
 from codenav.index.packages import package_of, told
@@ -97,9 +98,9 @@ class Indexing:
         self.notes, self.found, self.minds = Notes(), Answers(), list[Note]()
         self.documents = documents_in(self.folder, self.notes)
         self.servers = servers_of(self.folder, self.documents, how.server)
-        self.lines = {
-            one.uri: lines_in(one.text) for many in self.documents.values() for one in many
-        }
+        own = [one for many in self.documents.values() for one in many]
+        self.uris = {one.uri for one in own}
+        self.lines = {one.uri: lines_in(one.text) for one in own}
         self.monikers = Monikers(
             self.folder, self.own, how.on_server, self.found.names, self.line_of, self.notes
         )
@@ -120,21 +121,28 @@ class Indexing:
     def write(self, path: str, work: str) -> Outcome:
         """Asks all, and writes the dump; what the servers say themselves stays in a folder."""
         for number, (language, kind) in enumerate(self.servers):
-            with open(os.path.join(work, f"server{number}.log"), "wb") as log:
-                identifiers = {one.language for one in self.documents[language.name]}
-                settings = kind.settings_of(self.folder, identifiers)
-                with Conversation(kind, self.folder, settings, self.how.limits, log) as talk:
+            identifiers = {one.language for one in self.documents[language.name]}
+            settings, said = kind.settings_of(self.folder, identifiers), os.path.join(
+                work, f"{number}"
+            )
+            try:
+                with (
+                    open(said, "wb") as log,
+                    Conversation(kind, self.folder, settings, self.how.limits, log) as talk,
+                ):
                     self.ask(language, talk)
+            except BadCall as fault:
+                raise BadCall(": ".join(filter(None, [str(fault), tail_of(said)]))) from None
         grouped = Grouped(self.found)
         with whole_file(path) as out:
             writer = DumpWriter(out, grouped, self.monikers, self.notes)
-            writer.write(uri_of(self.folder, []), self.lines, VERSION)
+            writer.write(uri_of(self.folder, []), sorted(self.uris), VERSION)
         self.mind_copies(grouped.symbols)
         if self.own is None:
             self.mind(
                 "no package is known (--package of `codenav index`), so other projects don't lead here"
             )
-        files, words = sum(map(len, self.documents.values())), len(self.found.words)
+        files, words = len(self.uris), len(self.found.words)
         said = f"{files} files, {words} words, {self.found.empty} of them without a definition"
         return Outcome(said, {}, (*self.minds, *self.notes.all()))
 
@@ -170,7 +178,7 @@ class Indexing:
         for uri in outside:
             known = language_of(uri)
             self.line_of(uri, 0)
-            asking.talk.open(uri, known[1] if known else "c", "\n".join(self.lines.pop(uri)))
+            asking.talk.open(uri, known[1] if known else "c", "\n".join(self.lines[uri]))
         if outside:
             asking.outlines("names outside", outside)
         for uri in outside:
@@ -178,8 +186,8 @@ class Indexing:
 
     def mind_copies(self, symbols: Sequence[Place]) -> None:
         """Says which files of the folder may be answered from an installed copy."""
-        names = {os.path.basename(uri): uri for uri in self.lines}
-        for uri in sorted({symbol.uri for symbol in symbols} - self.lines.keys()):
+        names = {os.path.basename(uri): uri for uri in self.uris}
+        for uri in sorted({symbol.uri for symbol in symbols} - self.uris):
             own = names.get(os.path.basename(uri))
             if own:
                 self.mind(f"{path_of(uri, [])} is led to, and {path_of(own, [])} has its name")
