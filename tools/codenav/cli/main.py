@@ -53,15 +53,12 @@ OWN = {
 
 def usage() -> str:
     """How the command is called."""
-    groups = {"tools:": {name: tool.text for name, tool in TOOLS.items()}, "the program:": OWN}
-    rows = [
-        row
-        for title, group in groups.items()
-        for row in [title, *(f"  {name:10}  {text}" for name, text in group.items())]
-    ]
-    return "\n".join(
-        ["usage: codenav WORD ..      each has --help; --version says what's here", *rows]
+    tools, own = (
+        [f"  {name:10}  {text}" for name, text in group.items()]
+        for group in ({name: tool.text for name, tool in TOOLS.items()}, OWN)
     )
+    head = "usage: codenav WORD ..      each has --help; --version says what's here"
+    return "\n".join([head, *tools, "the program:", *own])
 
 
 def version() -> str:
