@@ -289,6 +289,19 @@ class TwoLanguages(OnFolder):
         )
 
 
+class InGit(OnFolder):
+    files = {**FILES, ".gitignore": "made.c\n", "made.c": "int made() {}\n"}
+
+    def test_files(self) -> None:
+        """Files that git doesn't have yet are indexed, and what it ignores isn't."""
+        for words in (["init", "-q"], ["add", "one.c", "api.h"]):
+            subprocess.run(["git", *words], cwd=self.folder, check=True)
+        status, said = self.stood_in()
+        self.assertEqual(status, 0, said)
+        found = {os.path.basename(one["uri"]) for one in vertices(self.out, "document")}
+        self.assertEqual(found, {"api.h", "one.c", "two.c"})
+
+
 class NoLanguage(OnFolder):
     files = {"notes.txt": "int both() {}\n"}
 

@@ -59,7 +59,7 @@ Documents = dict[str, list[Document]]
 def documents_in(folder: str, notes: Notes) -> Documents:
     """The documents of a folder whose languages are known."""
     found = defaultdict[str, list[Document]](list)
-    for name in sorted(files_of(folder)):
+    for name in sorted(set(files_of(folder, "--cached", "--others", "--exclude-standard"))):
         path = os.path.join(folder, os.fsdecode(name))
         known = language_of(path)
         if known is None:
