@@ -17,7 +17,7 @@ LAYERS = {
     "texts": "ground",
     "client": "ground",
     "dumps": "ground texts",
-    "index": "ground dumps",
+    "index": "ground texts dumps lsp",
     "sets": "ground texts client dumps",
     "settings": "ground texts client sets",
     "asking": "ground texts client sets settings",

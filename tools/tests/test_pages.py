@@ -59,6 +59,7 @@ PLACE = "/src/codenav"
 SECONDS = 600
 # It compiles the whole program, which takes minutes; the gate runs the program that it built.
 COMPILES = "(cd crates/codenav && rt try "
+ASKS = "codenav index "
 LEFT_OUT = "..."
 
 
@@ -323,7 +324,10 @@ class Pages(unittest.TestCase):
                 session = Session(built, folder, called_in)
                 try:
                     for example in (found for page in pages for found in examples(page)):
+                        is_asking = example.command.startswith(ASKS)
                         if example.command.startswith(COMPILES):
+                            continue
+                        if is_asking and not shutil.which("clangd"):
                             continue
                         self.assertEqual(session.differs(example), "")
                 finally:

@@ -384,8 +384,8 @@ class Publish(OnCheckout):
             (status, said, stages.splitlines()[-1], listed(self.url)),
             (2, [], f"codenav publish: {os.path.realpath(other)}: {nothing}", []),
         )
-        with open(os.path.join(other, "main.c"), "w", encoding="utf-8") as file:
-            file.write("int main(void) { return 0; }\n")
+        with open(os.path.join(other, "main.lua"), "w", encoding="utf-8") as file:
+            file.write("function main() end\n")
         status, said, _ = self.published("app", other)
         self.assertEqual((status, said[0]), (0, "uploaded app: 1 tags"))
         self.assertEqual(

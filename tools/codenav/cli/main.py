@@ -23,6 +23,7 @@ class Tool(NamedTuple):
 
 TOOLS = {
     "publish": Tool("publish", "from a checkout to answers: index, prepare, check, upload"),
+    "index": Tool("index", "make a dump by asking a language server"),
     "prepare": Tool("prepare", "make a dump that the server takes of an indexer's"),
     "upload": Tool("upload", "upload dumps, tags files or a set"),
     "rebalance": Tool("rebalance", "put kept sets where they belong"),
@@ -50,15 +51,12 @@ OWN = {
 
 def usage() -> str:
     """How the command is called."""
-    groups = {"tools:": {name: tool.text for name, tool in TOOLS.items()}, "the program:": OWN}
-    rows = [
-        row
-        for title, group in groups.items()
-        for row in [title, *(f"  {name:10}  {text}" for name, text in group.items())]
-    ]
-    return "\n".join(
-        ["usage: codenav WORD ..      each has --help; --version says what's here", *rows]
+    tools, own = (
+        [f"  {name:10}  {text}" for name, text in group.items()]
+        for group in ({name: tool.text for name, tool in TOOLS.items()}, OWN)
     )
+    head = "usage: codenav WORD ..      each has --help; --version says what's here"
+    return "\n".join([head, *tools, "the program:", *own])
 
 
 def version() -> str:

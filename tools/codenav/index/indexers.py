@@ -74,6 +74,10 @@ def named(name: str) -> Indexer:
     raise BadCall(f"no indexer {name!r} is known; --index takes the line by which one is called")
 
 
+class NotInstalled(BadCall):
+    """A checkout whose indexers aren't installed."""
+
+
 class Choice(NamedTuple):
     """The indexer of a checkout, None where none fits, and for each language that it leaves what
     is to be done for it."""
@@ -97,13 +101,13 @@ def marked(names: Iterable[str]) -> dict[Indexer, list[str]]:
 
 def fitting(folder: str) -> Choice:
     """The first known indexer that has a file at the top of a checkout and whose program this machine
-    has. Raises BadCall where there are such files, and the program of none."""
+    has. Raises NotInstalled where there are such files, and the program of none."""
     found = marked(map(os.fsdecode, files_of(folder)))
     at_top = [one for one in INDEXERS if one in found and "/" not in found[one][0]]
     at_hand = [one for one in at_top if shutil.which(one.program())]
     if at_top and not at_hand:
         programs = " or ".join(one.program() for one in at_top)
-        raise BadCall(
+        raise NotInstalled(
             f"{folder}: {programs} would index this, and isn't on the path; --no-index uploads tags alone"
         )
     indexer = at_hand[0] if at_hand else None

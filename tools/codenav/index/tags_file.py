@@ -25,13 +25,16 @@ LEFT_OUT = {
 }
 
 
-def files_of(folder: str) -> Iterator[bytes]:
-    """The files of a checkout, from its top on: those that git knows, and without git all whose
-    folders' names don't begin with a dot."""
+def files_of(folder: str, *kinds: str) -> Iterator[bytes]:
+    """The files of a checkout, from its top on: those that git knows, or of the kinds that options of
+    `git ls-files` name, and without git all whose folders' names don't begin with a dot."""
     listed = None
     if shutil.which("git"):
         listed = subprocess.run(
-            ["git", "ls-files", "-z"], cwd=folder, stdin=subprocess.DEVNULL, capture_output=True
+            ["git", "ls-files", "-z", *kinds],
+            cwd=folder,
+            stdin=subprocess.DEVNULL,
+            capture_output=True,
         )
     if listed is not None and listed.returncode == 0:
         names: Iterator[bytes] = iter(filter(None, listed.stdout.split(b"\0")))

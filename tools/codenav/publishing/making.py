@@ -9,7 +9,7 @@ import shutil
 from contextlib import suppress
 from typing import TYPE_CHECKING, Iterator, Optional, Sequence, Union
 
-from codenav.addresses import below, folder_address
+from codenav.addresses import folder_address
 from codenav.dumps.check import explain
 from codenav.dumps.dump import is_scip, opened_dump, profile_of
 from codenav.dumps.lsif.reading import Source
@@ -18,13 +18,17 @@ from codenav.dumps.prepare.prepare import prepare
 from codenav.dumps.scip.options import ScipOptions
 from codenav.faults import BadCall, NotADump, Unfit
 from codenav.files import whole_file
-from codenav.index.indexers import Choice, fitting, indexed, named
+from codenav.index.folder import TO_MIND
+from codenav.index.folder import How as IndexHow
+from codenav.index.folder import Indexing, NoLanguage
+from codenav.index.indexers import Choice, NotInstalled, fitting, indexed, named
 from codenav.index.tags_file import LEFT_OUT as TAGS_LEFT_OUT
 from codenav.index.tags_file import tagged
 from codenav.names import set_name
 from codenav.outcome import MENDED, Outcome
 from codenav.program import Program
 from codenav.progress import Shows
+from codenav.publishing.inside import folder_inside
 from codenav.publishing.made import Body, How, Made, Refused, Row, rows_of
 from codenav.publishing.target import Target
 from codenav.records import Prepared, new_record
@@ -34,7 +38,7 @@ from codenav.sets.publish.store import Store
 from codenav.sets.split.split import SetFiles, SplitOptions, split
 from codenav.sets.surface.made import keep_surface, made_surface, surface_file
 from codenav.texts.checked_out import indexed_at, still_indexed_at
-from codenav.texts.places import map_words, plain, uri_of
+from codenav.texts.places import map_words, uri_of
 
 if TYPE_CHECKING:
     from codenav.dumps.scip.messages import IndexFile
@@ -43,20 +47,6 @@ MISSING = {
     "lsif": "no indexer is known for what is here (--index)",
     "tags": "ctags isn't installed (Debian's universal-ctags)",
 }
-
-
-def folder_inside(folder: str, where: str, uris: Sequence[str]) -> str:
-    """The folder of a checkout, from its top on, that the address which documents are below stands
-    for: the top, or one that has the last names of the address, where more of the documents are
-    files below it."""
-    paths = [plain(inside) for inside in (below(where, uri) for uri in uris) if inside is not None]
-    names = plain(where).rstrip("/").split("/")[3:]
-    found = [os.curdir, *(os.path.join(*names[-count:]) for count in range(1, len(names) + 1))]
-
-    def files_in(inside: str) -> int:
-        return sum(os.path.isfile(os.path.join(folder, inside, path)) for path in paths)
-
-    return max((one for one in found if os.path.isdir(os.path.join(folder, one))), key=files_in)
 
 
 def refusal(body: Body, said: str) -> Refused:
@@ -76,7 +66,7 @@ class Making:
         self.is_set, self.profile = how.set or target.is_set, how.profile
         self.where, self.outcome, self.left_out = uri_of(folder, []), Outcome(), list[Row]()
         self.recorded: Optional[Prepared] = None
-        self.inside = os.curdir
+        self.inside, self.lacking = os.curdir, MISSING["lsif"]
         self.commit, fault = indexed_at(folder, how.revision)
         self.looks_again = not fault
         if fault:
@@ -90,7 +80,7 @@ class Making:
             self.profile = self.profile or profile_of(dump)
             bodies.append(Body(self.target.project, "lsif", dump, self.profile))
         elif not self.how.no_index and not self.left_out:
-            self.left_out.append(Row("dump", None, MISSING["lsif"]))
+            self.left_out.append(Row("dump", None, self.lacking))
         tags = "" if self.how.no_tags else self.tags(work, bool(raw) or self.how.no_index)
         if tags:
             bodies.append(Body(self.target.project, "tags", tags, None))
@@ -118,10 +108,13 @@ class Making:
             return "" if self.how.no_index else self.how.dump
         line = self.how.index
         if not line:
-            indexer, left = self.indexer()
+            try:
+                indexer, left = self.indexer()
+            except NotInstalled as fault:
+                return self.asked_dump(work, fault)
             self.left_out += [Row("dump", None, why) for why in left]
             if indexer is None:
-                return ""
+                return self.asked_dump(work, None)
             line = indexer.line
         self.shows.begin(f"indexed by {line}")
         path = indexed(line, self.folder, self.target.project, work, self.shows)
@@ -131,6 +124,26 @@ class Making:
     def indexer(self) -> Choice:
         """The indexer that is called, and what's said of languages that it leaves."""
         return Choice(named(self.how.indexer), ()) if self.how.indexer else fitting(self.folder)
+
+    def asked_dump(self, work: str, fault: Optional[NotInstalled]) -> str:
+        """The file with the dump that is made by asking language servers, where no indexer is
+        installed; empty where there's none of these either. Raises the fault there."""
+        try:
+            indexing = Indexing(self.folder, IndexHow(), self.shows)
+        except BadCall as other:
+            if fault is not None:
+                raise fault from None
+            self.lacking = MISSING["lsif"] if isinstance(other, NoLanguage) else str(other)
+            return ""
+        if fault is not None:
+            self.shows.warn(f"{fault}: a language server is asked")
+        path = os.path.join(work, "asked.lsif")
+        outcome = indexing.write(path, work)
+        for note in outcome.notes:
+            if note.kind == TO_MIND:
+                self.shows.warn(str(note))
+        self.left_out += rows_of(outcome, "2")
+        return path
 
     def prepared_dump(self, raw: str, work: str) -> str:
         """The file of the dump that is uploaded, which is a set's where it's too large for one

@@ -1,0 +1,296 @@
+"""A language server that is asked many things at once: waited for, and started again where it ends
+or hangs. What it leaves unanswered is told, with the reason."""
+
+import time
+from collections import deque
+from typing import Any, BinaryIO, Iterable, Iterator, NamedTuple, Optional
+
+from codenav.addresses import spelled
+from codenav.faults import BadCall
+from codenav.index.languages import ServerKind
+from codenav.index.process import Limits, Lost, Process
+from codenav.lsp.jsonrpc import Message
+from codenav.texts.places import uri_of
+
+TOKENS = (
+    "namespace type class enum interface struct typeParameter parameter variable property enumMember "
+    "event function method macro keyword modifier comment string number regexp operator decorator"
+)
+LINKS = {"linkSupport": True}
+CAPABILITIES = {
+    "general": {"positionEncodings": ["utf-16"]},
+    "textDocument": {
+        "definition": LINKS,
+        "declaration": LINKS,
+        "implementation": LINKS,
+        "hover": {"contentFormat": ["markdown", "plaintext"]},
+        "documentSymbol": {"hierarchicalDocumentSymbolSupport": True},
+        "publishDiagnostics": {},
+        "semanticTokens": {
+            "dynamicRegistration": True,
+            "requests": {"full": True},
+            "tokenTypes": TOKENS.split(),
+            "tokenModifiers": [],
+            "formats": ["relative"],
+        },
+    },
+    "window": {"workDoneProgress": True},
+    "workspace": {"configuration": True, "workspaceFolders": True},
+}
+AGAIN = (-32801, -32802)
+"""The errors ContentModified and ServerCancelled: the question is asked again."""
+MOST_AGAIN, MOST_IN_VAIN = 20, 8
+STEP_SECONDS = 0.2
+ERROR = 1
+
+
+class Question(NamedTuple):
+    """A request, and whose it is."""
+
+    tag: Any
+    method: str
+    params: dict[str, Any]
+
+
+class Answer(NamedTuple):
+    """The answer to a question, or why there's none."""
+
+    tag: Any
+    result: Any
+    fault: str = ""
+
+
+class Job:
+    """A question on its way: how often it was asked again, and how often the server was lost over it
+    alone."""
+
+    def __init__(self, question: Question) -> None:
+        self.question, self.again, self.lost = question, 0, 0
+
+    def answer(self, result: Any, fault: str = "") -> Answer:
+        """Its answer."""
+        return Answer(self.question.tag, result, fault)
+
+
+class Work:
+    """Questions: those under way by their numbers, those that are asked one by one, and the rest."""
+
+    def __init__(self, questions: Iterable[Question]) -> None:
+        self.rest, self.careful = deque(map(Job, questions)), deque[Job]()
+        self.flying: dict[int, Job] = {}
+
+    def next(self, window: int) -> Optional[Job]:
+        """The next one to ask where there's room."""
+        if self.careful:
+            return None if self.flying else self.careful.popleft()
+        is_alone = any(job.lost for job in self.flying.values())
+        room = self.rest and len(self.flying) < window and not is_alone
+        return self.rest.popleft() if room else None
+
+    def lost(self, why: str) -> Iterator[Answer]:
+        """Has those under way be asked one by one; what lost the server alone twice isn't."""
+        jobs, self.flying = list(self.flying.values()), {}
+        for job in jobs:
+            job.lost += len(jobs) == 1
+            if job.lost > 1:
+                yield job.answer(None, f"{why}, twice")
+            else:
+                self.careful.append(job)
+
+    def all(self) -> list[Job]:
+        """All that have no answer."""
+        return [*self.flying.values(), *self.careful, *self.rest]
+
+
+class Conversation:
+    """A language server over a folder, with the documents that are open. It's of use in a `with`,
+    at whose end nothing of it runs."""
+
+    def __init__(
+        self,
+        kind: ServerKind,
+        folder: str,
+        settings: dict[str, Any],
+        limits: Limits,
+        log: BinaryIO,
+    ) -> None:
+        self.kind, self.folder, self.settings = kind, folder, settings
+        self.limits, self.log = limits, log
+        self.opened: dict[str, dict[str, Any]] = {}
+        self.errors: dict[str, list[str]] = {}
+        self.offers: dict[str, Any] = {}
+        self.diagnosed, self.active = set[str](), set[str]()
+        self.number = self.restarts = self.vain = 0
+        self.dead, self.end = "", time.monotonic() + limits.seconds
+        self.process: Optional[Process] = None
+
+    def __enter__(self) -> "Conversation":
+        try:
+            self.start()
+        except BaseException:
+            self.stop()
+            raise
+        return self
+
+    def __exit__(self, *_: object) -> None:
+        self.stop()
+
+    def stop(self) -> None:
+        """Ends the process."""
+        if self.process is not None:
+            self.process.stop()
+            self.process = None
+
+    @property
+    def running(self) -> Process:
+        """The process. Raises Lost where there's none."""
+        if self.process is None:
+            raise Lost("the server doesn't run")
+        return self.process
+
+    def start(self) -> None:
+        """Starts the process, and opens again what was open. Raises BadCall where it doesn't answer."""
+        self.diagnosed, self.active = set(), set()
+        self.process = Process(self.kind.line, self.folder, self.limits, self.log)
+        uri = uri_of(self.folder, [])
+        self.process.send(
+            id=0,
+            method="initialize",
+            params={
+                "processId": None,
+                "rootUri": uri,
+                "capabilities": CAPABILITIES,
+                "workspaceFolders": [{"uri": uri, "name": "folder"}],
+                "initializationOptions": self.settings,
+            },
+        )
+        try:
+            while (message := self.process.next(self.limits.patience)) is not None:
+                if message.get("id") == 0 and "method" not in message:
+                    break
+                self.heard(message)
+        except Lost as lost:
+            raise BadCall(f"{self.kind.line}: {lost}, before it was asked anything") from None
+        result = message.get("result") if message else None
+        if not isinstance(result, dict) or not isinstance(result.get("capabilities"), dict):
+            raise BadCall(f"{self.kind.line}: it doesn't answer as a language server does")
+        self.offers = result["capabilities"]
+        self.process.send(method="initialized", params={})
+        for document in self.opened.values():
+            self.process.send(method="textDocument/didOpen", params={"textDocument": document})
+
+    def open(self, uri: str, language: str, text: str) -> None:
+        """Opens a document."""
+        self.opened[uri] = {"uri": uri, "languageId": language, "version": 1, "text": text}
+        params = {"textDocument": self.opened[uri]}
+        if self.process is not None:
+            self.process.send(method="textDocument/didOpen", params=params)
+
+    def close(self, uri: str) -> None:
+        """Closes a document."""
+        del self.opened[uri]
+        if self.process is not None:
+            params = {"textDocument": {"uri": uri}}
+            self.process.send(method="textDocument/didClose", params=params)
+
+    def heard(self, message: Message) -> None:
+        """Takes what the server says of itself, and answers what it asks."""
+        method, params = message.get("method"), message.get("params")
+        params = params if isinstance(params, dict) else {}
+        if method == "$/progress" and isinstance(params.get("value"), dict):
+            is_end = params["value"].get("kind") == "end"
+            (self.active.discard if is_end else self.active.add)(str(params.get("token")))
+        elif method == "textDocument/publishDiagnostics":
+            found = [one for one in params.get("diagnostics", ()) if isinstance(one, dict)]
+            uri = spelled(str(params.get("uri")))
+            self.diagnosed.add(uri)
+            self.errors[uri] = [
+                str(one.get("message")) for one in found if one.get("severity", ERROR) == ERROR
+            ]
+        elif method == "client/registerCapability":
+            for one in params.get("registrations", ()):
+                if isinstance(one, dict) and one.get("method") == "textDocument/semanticTokens":
+                    self.offers["semanticTokensProvider"] = one.get("registerOptions")
+        if "id" in message and method is not None:
+            items = params.get("items", ()) if method == "workspace/configuration" else ()
+            result = [self.settings for _ in items] if items else None
+            self.running.send(id=message["id"], result=result)
+
+    def is_ready(self, silent: float) -> bool:
+        """Whether the server, silent for so many seconds, has read what is open."""
+        is_read = self.opened.keys() <= self.diagnosed
+        is_silent = silent > self.kind.silence and not self.kind.is_diagnosing
+        return (is_read or is_silent) and not self.active
+
+    def settle(self) -> bool:
+        """Waits until the server has read what is open; says whether it came to that."""
+        heard, longest = time.monotonic(), max(self.limits.patience, 2 * self.kind.silence)
+        try:
+            while not self.is_ready(time.monotonic() - heard):
+                message = self.running.next(STEP_SECONDS)
+                if message is not None:
+                    self.heard(message)
+                    heard = time.monotonic()
+                if time.monotonic() > min(heard + longest, self.end):
+                    return False
+        except Lost:
+            return False
+        return True
+
+    def answers(self, questions: Iterable[Question]) -> Iterator[Answer]:
+        """Asks all, many at a time. After an end or a hang those under way are asked one by one."""
+        work = Work(questions)
+        while not self.dead and (work.rest or work.careful or work.flying):
+            try:
+                while (job := work.next(self.limits.window)) is not None:
+                    self.ask(work, job)
+                message = self.running.next(min(self.limits.patience, self.end - time.monotonic()))
+                if message is None:
+                    raise Lost(f"the server said nothing for {self.limits.patience:g} s")
+                yield from self.taken(work, message)
+            except Lost as lost:
+                yield from work.lost(str(lost))
+                self.restart(str(lost))
+        for job in work.all():
+            yield job.answer(None, self.dead)
+
+    def ask(self, work: Work, job: Job) -> None:
+        """Sends a question."""
+        self.number += 1
+        work.flying[self.number] = job
+        _, method, params = job.question
+        self.running.send(id=self.number, method=method, params=params)
+
+    def taken(self, work: Work, message: Message) -> Iterator[Answer]:
+        """The answer that a message is; none where it's something else, or a question's that isn't
+        under way any more."""
+        if "method" in message:
+            self.heard(message)
+            return
+        job = work.flying.pop(message["id"], None) if "id" in message else None
+        if job is None:
+            return
+        error = message.get("error")
+        code = error.get("code") if isinstance(error, dict) else None
+        if code in AGAIN and job.again < MOST_AGAIN:
+            job.again += 1
+            work.careful.append(job)
+            return
+        self.vain = 0
+        said = error.get("message") if isinstance(error, dict) else error
+        yield job.answer(message.get("result"), f"error {code}: {said}" if error else "")
+
+    def restart(self, why: str) -> None:
+        """Starts the server again, unless the time is over or that was done often in vain."""
+        self.stop()
+        self.restarts, self.vain = self.restarts + 1, self.vain + 1
+        if time.monotonic() > self.end:
+            self.dead = f"not answered within {self.limits.seconds:g} s"
+        elif self.vain > MOST_IN_VAIN:
+            self.dead = f"{why}, {self.vain} times without an answer between"
+        else:
+            try:
+                self.start()
+                self.settle()
+            except BadCall as fault:
+                self.dead = str(fault)

@@ -1,0 +1,64 @@
+"""Symbols of what a server answered: the places that words lead to."""
+
+from collections import Counter, defaultdict
+
+from codenav.index.asked import Answers, Place
+from codenav.index.languages import is_header
+
+
+class Grouped:
+    """Which symbols each word leads to, and of each symbol the declarations apart from its definition
+    and the words that use it."""
+
+    def __init__(self, found: Answers) -> None:
+        self.found = found
+        self.declared: defaultdict[Place, list[Place]] = defaultdict(list)
+        self.uses: defaultdict[Place, list[Place]] = defaultdict(list)
+        self.leads = {
+            word: list(dict.fromkeys(map(self.snapped, places)))
+            for word, places in sorted(found.leads.items())
+        }
+        self.pair()
+        self.symbols = sorted({symbol for places in self.leads.values() for symbol in places})
+        for word, places in self.leads.items():
+            for symbol in places:
+                if word != symbol and word not in self.declared[symbol]:
+                    self.uses[symbol].append(word)
+
+    def snapped(self, place: Place) -> Place:
+        """The word that begins at a place. That of a whole file is empty, for one of any width would
+        answer for the words in it."""
+        if (place.line, place.start) == (0, 0) and place.at not in self.found.words:
+            return Place(place.uri, 0, 0, 0, 0)
+        return self.found.words.get(place.at, place)
+
+    def size(self, place: Place) -> tuple[int, int]:
+        """How large the declaration at a place is, in lines and code units."""
+        name = self.found.names.get(place.at)
+        return name.size if name else (0, 0)
+
+    def pair(self) -> None:
+        """Has a definition that leads to its declaration lead to itself. Of two that lead to each other
+        it's the one that more other words lead to, or else the one in no header, or else the larger.
+        """
+
+        def order(place: Place) -> tuple[int, bool, int, int]:
+            lines, units = self.size(place)
+            return -weight[place], is_header(place.uri), -lines, -units
+
+        weight = Counter(
+            place for word, places in self.leads.items() for place in places if place != word
+        )
+        for word, places in list(self.leads.items()):
+            for other in places:
+                back = self.leads.get(other, [])
+                if word < other and word in back and other not in back and word not in places:
+                    both = sorted((word, other), key=order)
+                    self.leads[both[0]] = [both[0]]
+                    self.declared[both[0]].append(both[1])
+
+    def tags(self) -> dict[Place, Place]:
+        """For each symbol the word at which it's asked for: its own, or the first that leads to it."""
+        first = {symbol: self.uses[symbol][0] for symbol in self.symbols if self.uses[symbol]}
+        own = {symbol: symbol for symbol in self.symbols if symbol.at in self.found.words}
+        return first | own

@@ -1,0 +1,608 @@
+"""Tests of `index`: over a server that stands in for a language server and fails as it's told, and
+over clangd where that is installed."""
+
+import io
+import json
+import os
+import random
+import re
+import shlex
+import shutil
+import signal
+import subprocess
+import sys
+import tempfile
+import time
+import unittest
+from contextlib import redirect_stderr, redirect_stdout, suppress
+from typing import Any, Callable
+from unittest import mock
+
+from codenav.cli.index import INDEX
+from codenav.cli.publish import PUBLISH
+from codenav.client.projects import fresh_key, put
+from codenav.texts.places import uri_of
+from tests.servers import TOP, OnServer, command
+from tests.test_set_service import asked_at
+
+STAND_IN = os.path.join(TOP, "tools", "tests", "language_server.py")
+SERVER = f"{sys.executable} -B {shlex.quote(STAND_IN)}"
+FILES = {
+    "api.h": "int open();\nint both();\n",
+    "one.c": "int open() {\n  return both() + open() + missing();\n}\n",
+    "two.c": "int both() {\n  return open();\n}\nint both_made() { return 0; }\n",
+}
+PACKAGE = ["--package", "pkg-config api 1.2"]
+POINTS = ("semanticTokens/full", "documentSymbol", "definition", "hover", "implementation")
+SECONDS = 20
+
+
+def wait_for(is_so: Callable[[], bool]) -> None:
+    """Waits until something is so."""
+    end = time.monotonic() + SECONDS
+    while not is_so():
+        if time.monotonic() > end:
+            raise AssertionError(f"not so within {SECONDS} s")
+        time.sleep(0.05)
+
+
+def line_in(folder: str, file: str, name: str) -> int:
+    """The line of a file that declares a name."""
+    with open(os.path.join(folder, file), encoding="utf-8") as text:
+        return next(at for at, line in enumerate(text) if line.startswith(f"int {name}("))
+
+
+def stood_in_as(path: str) -> None:
+    """Writes a program that calls the server that stands in."""
+    with open(path, "w", encoding="utf-8") as file:
+        file.write(f"#!/bin/sh\nexec {SERVER}\n")
+    os.chmod(path, 0o755)
+
+
+def is_running(number: str) -> bool:
+    """Whether a process runs still."""
+    try:
+        with open(f"/proc/{number}/stat", encoding="ascii") as file:
+            return file.read().rpartition(") ")[2][:1] != "Z"
+    except OSError:
+        return False
+
+
+def vertices(out: str, label: str) -> list[dict[str, Any]]:
+    """The vertices of a label in a dump."""
+    with open(out, encoding="utf-8") as file:
+        elements = [json.loads(line) for line in file]
+    return [one for one in elements if (one["type"], one["label"]) == ("vertex", label)]
+
+
+class OnFolder(OnServer):
+    """Tests over a small folder."""
+
+    files: dict[str, str] = FILES
+
+    def setUp(self) -> None:
+        super().setUp()
+        self.home = self.enterContext(tempfile.TemporaryDirectory())
+        self.folder, self.out = (os.path.join(self.home, name) for name in ("code", "out.lsif"))
+        for name, text in self.files.items():
+            path = os.path.join(self.folder, name)
+            os.makedirs(os.path.dirname(path), exist_ok=True)
+            with open(path, "w", encoding="utf-8") as file:
+                file.write(text)
+
+    def index(self, *words: str, **variables: str) -> tuple[int, str]:
+        """The status of a call, and what it says, without the stages."""
+        given = {"FAILED": os.path.join(self.home, "failed"), **variables}
+        with mock.patch.dict(os.environ, given), redirect_stderr(io.StringIO()) as said:
+            status = INDEX.main([*words, self.folder, self.out])
+        lines = [line.removeprefix("codenav index: ") for line in said.getvalue().splitlines()]
+        return status, "\n".join(line for line in lines if not re.search(r" s\)$", line))
+
+    def stood_in(self, *words: str, **variables: str) -> tuple[int, str]:
+        """A call over the server that stands in."""
+        return self.index("--server", SERVER, "--patience", "2", *PACKAGE, *words, **variables)
+
+    def body(self) -> bytes:
+        """What was written."""
+        with open(self.out, "rb") as file:
+            return file.read()
+
+    def assert_answers(self, rows: dict[tuple[str, str, int, int], Any]) -> None:
+        """Has a server answer from what was written as rows say: by kind, file, line and character the
+        places, each as its file and its line, or the contents of a hover."""
+        self.upload("app")
+        self.assert_answer(rows)
+
+    def upload(self, project: str) -> None:
+        """Uploads what was written."""
+        with open(self.out, "rb") as body:
+            answer = put(self.url, project, "lsif", body, fresh_key("lsif"), "2", False)
+        self.assertEqual(answer.status, 200, answer)
+
+    def assert_answer(self, rows: dict[tuple[str, str, int, int], Any]) -> None:
+        """Has a server answer from what was uploaded as rows say."""
+        asked = asked_at(self.url, "app")
+        for (kind, name, line, character), wanted in rows.items():
+            uri = uri_of(os.path.join(self.folder, name), [])
+            parameters = {"uri": uri, "line": line, "character": character}
+            member = "contents" if kind == "hover" else "places"
+            with self.subTest(kind=kind, name=name, line=line, character=character):
+                found = asked.query(kind, parameters, member)
+                if kind != "hover":
+                    found = sorted(
+                        f"{os.path.basename(one['uri'])}:{one['start']['line']}" for one in found
+                    )
+                self.assertEqual(found, wanted)
+
+
+class Answers(OnFolder):
+    def test_answers(self) -> None:
+        status, said = self.stood_in()
+        self.assertEqual(status, 0, said)
+        self.assert_answers(
+            {
+                ("definition", "one.c", 1, 9): ["two.c:0"],
+                ("definition", "api.h", 1, 4): ["two.c:0"],
+                ("definition", "two.c", 0, 4): ["two.c:0"],
+                ("definition", "one.c", 1, 27): [],
+                ("declaration", "one.c", 1, 9): ["api.h:1"],
+                ("declaration", "two.c", 3, 4): [],
+                ("implementation", "one.c", 1, 9): ["two.c:3"],
+                ("references", "two.c", 0, 4): ["api.h:1", "one.c:1", "two.c:0"],
+                ("references", "one.c", 0, 4): ["api.h:0", "one.c:0", "one.c:1", "two.c:1"],
+                ("hover", "one.c", 1, 9): "about both",
+            }
+        )
+
+    def test_monikers(self) -> None:
+        """What a header declares is exported from where it's defined."""
+        self.stood_in()
+        found = {(one["identifier"], one["kind"]) for one in vertices(self.out, "moniker")}
+        self.assertEqual(found, {("api.h:open", "export"), ("api.h:both", "export")})
+        packages = vertices(self.out, "packageInformation")
+        wanted = [("pkg-config", "api", "1.2")]
+        self.assertEqual([(p["manager"], p["name"], p["version"]) for p in packages], wanted)
+
+
+class Failing(OnFolder):
+    def whole(self) -> bytes:
+        """The dump that is written where nothing fails."""
+        self.stood_in()
+        return self.body()
+
+    def test_once(self) -> None:
+        """A server that fails once leaves nothing out, unless it answers by an error or by no form."""
+        whole = self.whole()
+        rows = [
+            *((kind, method) for kind in ("end", "late", "error", "no-json") for method in POINTS),
+            *((kind, "definition") for kind in ("hang", "lost", "formless")),
+            ("hang", "semanticTokens/full"),
+            ("formless", "semanticTokens/full"),
+            ("formless", "hover"),
+        ]
+        for kind, method in rows:
+            with self.subTest(kind=kind, method=method):
+                mark = os.path.join(self.home, f"{kind} {method}".replace("/", " "))
+                status, said = self.stood_in(FAULT=f"{kind} {method} * once", FAILED=mark)
+                self.assertTrue(os.path.exists(mark))
+                if kind in ("error", "formless"):
+                    self.assertEqual((status, said.count("left out")), (1, 1), said)
+                else:
+                    self.assertEqual(status, 0, said)
+                    self.assertEqual(self.body(), whole)
+
+    def test_always(self) -> None:
+        """What a server fails at each time is left out alone, and said."""
+        for kind in ("end", "hang", "lost", "error", "no-json", "formless"):
+            with self.subTest(kind=kind):
+                status, said = self.stood_in(FAULT=f"{kind} definition missing always")
+                self.assertEqual((status, said.count("left out: definitions")), (1, 1), said)
+                self.assertIn("one.c:2:", said)
+                self.assert_answers({("definition", "one.c", 1, 9): ["two.c:0"]})
+
+    def test_each_process(self) -> None:
+        """Processes that end after so many requests each come to the same dump."""
+        whole = self.whole()
+        status, said = self.stood_in(FAULT="end * * 9")
+        self.assertEqual((status, self.body()), (0, whole), said)
+        self.assertIn("to mind: the server was started again", said)
+
+    def test_in_vain(self) -> None:
+        """A server that never comes to an answer isn't started for ever, nor is one over the time."""
+        rows: dict[str, list[str]] = {
+            "9 times without an answer": [],
+            "not answered within 0.1 s": ["--seconds", "0.1"],
+        }
+        for text, words in rows.items():
+            with self.subTest(text=text):
+                status, said = self.stood_in(*words, FAULT="end * * 2")
+                self.assertEqual(status, 1, said)
+                self.assertIn(text, said)
+
+    def test_memory(self) -> None:
+        words = ("--megabytes", "150", "--patience", "20")
+        status, said = self.stood_in(*words, FAULT="memory definition missing always")
+        self.assertEqual(status, 1, said)
+        self.assertIn("the server took more than 150 MB of memory, twice", said)
+
+    def test_at_the_start(self) -> None:
+        """A server that doesn't start is one line, and OUT stays as it was."""
+        whole = self.whole()
+        rows = {
+            "--server=true": "the server ended",
+            "--server=sh -c 'echo no such flag >&2'": "no such flag",
+            "--server=cat": "it doesn't answer as a language server does",
+            "--server=/no/server": "which isn't installed",
+            "--megabytes=0": "--megabytes 0: it's more than 0",
+            "--seconds=nan": "--seconds nan: it's more than 0",
+            "--package=api": "--package api: it's 'MANAGER NAME VERSION'",
+        }
+        for word, text in rows.items():
+            with self.subTest(word=word):
+                status, said = self.index(word, "--patience", "2")
+                self.assertEqual((status, self.body(), said.count("\n")), (2, whole, 0), said)
+                self.assertIn(text, said)
+
+    def test_signal(self) -> None:
+        """What it started ends with it, and nothing of its files stays."""
+        child, work = os.path.join(self.home, "child"), os.path.join(self.home, "work")
+        os.mkdir(work)
+        variables = {"CHILD": child, "TMPDIR": work, "FAULT": "hang definition * always"}
+        variables["FAILED"] = mark = os.path.join(self.home, "failed")
+        words = [*command("index"), "--server", SERVER, self.folder, self.out]
+        with subprocess.Popen(
+            words, env={**os.environ, **variables}, stderr=subprocess.PIPE, text=True
+        ) as run:
+            wait_for(lambda: os.path.exists(mark))
+            run.terminate()
+            said = run.communicate(timeout=20)[1]
+        self.assertEqual(run.returncode, 128 + signal.SIGTERM)
+        self.assertTrue(said.endswith("codenav index: ended by SIGTERM\n"), said)
+        with open(child, encoding="ascii") as file:
+            numbers = file.read().split()
+        self.assertEqual(len(numbers), 2)
+        wait_for(lambda: not any(map(is_running, numbers)))
+        self.assertEqual((os.listdir(work), os.path.exists(self.out)), ([], False))
+
+
+class TwoLanguages(OnFolder):
+    files = {**FILES, "three.go": "int three() {\n return three() + both();\n}\n"}
+
+    def test_both(self) -> None:
+        """Each language is asked of its own server, and a server that is named of one alone."""
+        status, said = self.stood_in()
+        self.assertEqual((status, os.path.exists(self.out)), (2, False))
+        self.assertIn("--server is asked of one language, and here are C and C++ and Go", said)
+        path = os.path.join(self.home, "bin")
+        os.mkdir(path)
+        for name in ("clangd", "gopls"):
+            stood_in_as(os.path.join(path, name))
+        status, said = self.index(PATH=f"{path}:{os.environ['PATH']}")
+        self.assertEqual(status, 0, said)
+        self.assert_answers(
+            {
+                ("definition", "one.c", 1, 9): ["two.c:0"],
+                ("definition", "three.go", 1, 8): ["three.go:0"],
+                ("definition", "three.go", 1, 18): [],
+                ("hover", "three.go", 1, 8): "about three",
+            }
+        )
+
+
+class InGit(OnFolder):
+    files = {**FILES, ".gitignore": "made.c\n", "made.c": "int made() {}\n"}
+
+    def test_files(self) -> None:
+        """Files that git doesn't have yet are indexed, and what it ignores isn't."""
+        for words in (["init", "-q"], ["add", "one.c", "api.h"]):
+            subprocess.run(["git", *words], cwd=self.folder, check=True)
+        status, said = self.stood_in()
+        self.assertEqual(status, 0, said)
+        found = {os.path.basename(one["uri"]) for one in vertices(self.out, "document")}
+        self.assertEqual(found, {"api.h", "one.c", "two.c"})
+
+
+class NoLanguage(OnFolder):
+    files = {"notes.txt": "int both() {}\n"}
+
+    def test_nothing_known(self) -> None:
+        status, said = self.stood_in()
+        self.assertEqual((status, os.path.exists(self.out)), (2, False))
+        self.assertIn("no file of a language that is known here", said)
+
+
+class Published(OnFolder):
+    """`publish` where no indexer is installed: a language server is asked."""
+
+    def publish(self, *programs: str) -> tuple[int, str]:
+        """The status of a call with some programs on the path, and what it says."""
+        path = os.path.join(self.home, "bin")
+        os.makedirs(path, exist_ok=True)
+        for name in ("git", "ctags", "sh", "sort"):
+            with suppress(FileExistsError):
+                os.symlink(shutil.which(name) or "/", os.path.join(path, name))
+        for name in programs:
+            stood_in_as(os.path.join(path, name))
+        variables = {"PATH": path, "CODENAV_PROGRAM": self.program}
+        with (
+            mock.patch.dict(os.environ, variables),
+            redirect_stderr(io.StringIO()) as said,
+            redirect_stdout(said),
+        ):
+            status = PUBLISH.main([self.url, "app", self.folder])
+        return status, said.getvalue()
+
+    def test_asked(self) -> None:
+        """With the file that an indexer is chosen by, which is said, and without."""
+        status, said = self.publish("clangd")
+        self.assertEqual(status, 0, said)
+        self.assertIn("definitions: 12 asked", said)
+        self.assertRegex(said, "uploaded app: a dump of [0-9]+ elements, profile 2\n")
+        self.assert_answer({("declaration", "one.c", 1, 9): ["api.h:1"]})
+        with open(
+            os.path.join(self.folder, "compile_commands.json"), "w", encoding="utf-8"
+        ) as file:
+            file.write("[]")
+        status, said = self.publish("clangd")
+        self.assertEqual(status, 0, said)
+        text = "scip-clang would index this, and isn't on the path: a language server is asked"
+        self.assertIn(text, said)
+
+    def test_none(self) -> None:
+        """Without a language server too there are tags, or the fault is the indexer's."""
+        status, said = self.publish()
+        self.assertEqual(status, 0, said)
+        text = "C and C++ would be asked of clangd, which isn't installed (Debian's clangd)"
+        self.assertIn(text, said)
+        with open(os.path.join(self.folder, "go.mod"), "w", encoding="utf-8") as file:
+            file.write("module m\n")
+        status, said = self.publish()
+        self.assertEqual(status, 2)
+        self.assertIn("scip-go would index this, and isn't on the path\n", said)
+
+
+@unittest.skipUnless(shutil.which("clangd"), "clangd isn't installed")
+class Clangd(OnFolder):
+    files = {
+        "include/api.h": "#define LIMIT 7\nenum kind { SMALL };\nstruct box { enum kind kind; };\nint both(struct box *);\n",
+        "src/one.c": """#include "api.h"
+#define TWICE(x) both(x) + both(x)
+#if 0
+int other = both(0);
+#endif
+int first(struct box *box) {
+  return both(box) + LIMIT + box->kind;
+}
+""",
+        "src/two.c": '#include "api.h"\nint both(struct box *box) {\n  return box->kind == SMALL;\n}\n',
+        "api.pc.in": "",
+        "configure.ac": "AC_INIT([api], [1.2])\n",
+    }
+
+    def test_answers(self) -> None:
+        """Definitions in another file, headers of the folder without a word on how it's compiled; and
+        nothing in code that isn't compiled and in the body of a macro."""
+        status, said = self.index()
+        self.assertEqual(status, 0, said)
+        self.assertIn("to mind: no compile_commands.json", said)
+        self.assert_answers(
+            {
+                ("definition", "src/one.c", 6, 9): ["two.c:1"],
+                ("definition", "src/one.c", 6, 21): ["api.h:0"],
+                ("definition", "src/one.c", 6, 34): ["api.h:2"],
+                ("definition", "src/one.c", 3, 12): [],
+                ("definition", "src/one.c", 1, 17): [],
+                ("declaration", "src/one.c", 6, 9): ["api.h:3"],
+                ("references", "include/api.h", 1, 12): ["api.h:1", "two.c:2"],
+                ("references", "include/api.h", 3, 4): ["api.h:3", "one.c:6", "two.c:1"],
+            }
+        )
+        names = {one["identifier"] for one in vertices(self.out, "moniker")}
+        wanted = {"LIMIT", "kind", "kind.SMALL", "box", "box.kind", "both"}
+        self.assertEqual(names, {f"api.h:{name}" for name in wanted})
+
+
+@unittest.skipUnless(shutil.which("clangd"), "clangd isn't installed")
+class OddNames(OnFolder):
+    files = {
+        "a b/(ü)+&=@.h": "int both(void);\n",
+        "a b/ö.c": '#include "(ü)+&=@.h"\n/* \U0001f600 */ int both(void) { return 1; }\n',
+        "latin.c": "int both(void);\nint one(void) { return /* é */ both(); }\n",
+    }
+
+    def test_names_and_columns(self) -> None:
+        """Addresses that are written in several ways, and characters of two code units."""
+        status, said = self.index("--patience", "9")
+        self.assertEqual(status, 0, said)
+        self.assert_answers(
+            {
+                ("definition", "latin.c", 1, 31): ["%C3%B6.c:1"],
+                ("definition", "a b/(ü)+&=@.h", 0, 4): ["%C3%B6.c:1"],
+                ("declaration", "a b/ö.c", 1, 14): ["(%C3%BC)+&=@.h:0"],
+                ("definition", "a b/ö.c", 1, 13): ["%C3%B6.c:1"],
+                ("definition", "a b/ö.c", 1, 12): [],
+            }
+        )
+        self.assertEqual(sorted(os.listdir(self.folder)), ["a b", "latin.c"])
+
+
+@unittest.skipUnless(shutil.which("clangd"), "clangd isn't installed")
+class ByChance(OnFolder):
+    """Programs made by chance, whose makers know where each name is defined and used."""
+
+    files = {}
+
+    def test_programs(self) -> None:
+        for seed in range(3):
+            chance = random.Random(seed)
+            defined, uses = self.made(chance)
+            status, said = self.index()
+            self.assertEqual(status, 0, said)
+            rows: dict[tuple[str, str, int, int], Any] = {}
+            for name, (file, line) in defined.items():
+                declared = f"all.h:{line_in(self.folder, 'all.h', name)}"
+                places = sorted(
+                    [f"{file}:{line}", declared, *(f"{f}:{at}" for f, at, _ in uses[name])]
+                )
+                rows["references", file, line, 4] = places
+                for used, at, column in uses[name]:
+                    rows["definition", used, at, column] = [f"{file}:{line}"]
+                    rows["declaration", used, at, column] = [declared]
+            with self.subTest(seed=seed):
+                self.assert_answers(rows)
+
+    def made(
+        self, chance: random.Random
+    ) -> tuple[dict[str, tuple[str, int]], dict[str, list[Any]]]:
+        """Writes a program; answers where its functions are defined, and where each is used."""
+        names = [f"f{number}" for number in range(12)]
+        defined, texts = dict[str, tuple[str, int]](), dict[str, list[str]]()
+        uses: dict[str, list[tuple[str, int, int]]] = {name: [] for name in names}
+        for name in names:
+            file = f"s{chance.randrange(4)}.c"
+            lines = texts.setdefault(file, ['#include "all.h"'])
+            lines += [f"// {chance.choice(names)}"] * chance.randrange(2)
+            defined[name] = file, len(lines)
+            text = f"int {name}(int a) {{ return a"
+            for other in chance.choices(names, k=chance.randrange(4)):
+                uses[other].append((file, len(lines), len(text) + 3))
+                text += f" + {other}(a)"
+            lines.append(text + "; }")
+        chance.shuffle(names)
+        texts["all.h"] = [f"int {name}(int a);" for name in names]
+        shutil.rmtree(self.folder, ignore_errors=True)
+        os.mkdir(self.folder)
+        for file, lines in texts.items():
+            with open(os.path.join(self.folder, file), "w", encoding="utf-8") as out:
+                out.write("\n".join([*lines, ""]))
+        return defined, uses
+
+
+@unittest.skipUnless(shutil.which("clangd"), "clangd isn't installed")
+class Joined(OnFolder):
+    """A library, and a program with an installed copy of its header, as two projects."""
+
+    files = {
+        "lib/include/lib.h": "int both(int);\n#define LIMIT 7\n",
+        "lib/src/lib.c": '#include "lib.h"\nint both(int a) { return a; }\n',
+        "lib/lib.pc.in": "",
+        "lib/configure.ac": "AC_INIT([lib], [1.2])\n",
+        "sys/include/lib.h": "int both(int);\n#define LIMIT 7\n",
+        "sys/lib.pc": "Version: 1.2\n",
+        "user/main.c": "#include <lib.h>\nint main(void) { return both(LIMIT); }\n",
+        "user/old/lib.h": "",
+        "user/compile_flags.txt": "-I../sys/include\n",
+    }
+
+    def setUp(self) -> None:
+        super().setUp()
+        whole, path = self.folder, os.path.join(self.home, "bin")
+        os.mkdir(path)
+        said = {"-S": "lib-dev: $2", "-L": os.path.join(whole, "sys", "lib.pc")}
+        cases = "\n".join(f'{option}) echo "{text}";;' for option, text in said.items())
+        with open(os.path.join(path, "dpkg"), "w", encoding="utf-8") as file:
+            file.write(f"#!/bin/sh\ncase $1 in\n{cases}\nesac\n")
+        os.chmod(os.path.join(path, "dpkg"), 0o755)
+        self.path = f"{path}:{os.environ['PATH']}"
+        rows: dict[str, list[str]] = {"lib": [], "app": ["--on-server", "lib"]}
+        for project, words in rows.items():
+            self.folder = os.path.join(whole, "user" if project == "app" else project)
+            status, said_of = self.index(*words, PATH=self.path)
+            self.assertEqual(status, 0, said_of)
+            self.upload(project)
+
+    def test_both_ways(self) -> None:
+        """A use leads to the library's project alone, and that knows the use."""
+        self.assert_answer(
+            {
+                ("definition", "main.c", 1, 24): ["lib.c:1"],
+                ("definition", "main.c", 1, 29): ["lib.h:1"],
+                ("references", "main.c", 1, 24): ["lib.c:1", "lib.h:0", "main.c:1"],
+            }
+        )
+
+    def test_not_told(self) -> None:
+        """A use of a package that isn't told to be on the server leads to the installed copy."""
+        status, said = self.index(PATH=self.path)
+        self.assertEqual(status, 0, said)
+        self.assertRegex(
+            said, "to mind: .*/sys/include/lib.h is led to, and .*/old/lib.h has its name"
+        )
+        self.assert_answers({("definition", "main.c", 1, 24): ["lib.h:0"]})
+
+
+@unittest.skipUnless(shutil.which("gopls") and shutil.which("go"), "gopls isn't installed")
+class Gopls(OnFolder):
+    files = {
+        "go.mod": "module example.org/m\n\ngo 1.19\n",
+        "shape/shape.go": """package shape
+
+type Shape interface{ Area() int }
+
+type Box struct{ Side int }
+
+func (b *Box) Area() int { return b.Side * b.Side }
+
+func local() int { return 0 }
+""",
+        "main.go": """package main
+
+import "example.org/m/shape"
+
+func main() {
+	var s shape.Shape = &shape.Box{Side: 2}
+	println(s.Area())
+}
+""",
+    }
+
+    def test_answers(self) -> None:
+        """Across packages, from an interface to what implements it; with exported names."""
+        status, said = self.index("--package", "gomod example.org/m v1.0.0")
+        self.assertEqual(status, 0, said)
+        self.assert_answers(
+            {
+                ("definition", "main.go", 5, 13): ["shape.go:2"],
+                ("definition", "main.go", 5, 32): ["shape.go:4"],
+                ("definition", "main.go", 5, 28): ["shape.go:4"],
+                ("definition", "main.go", 6, 11): ["shape.go:2"],
+                ("implementation", "main.go", 6, 11): ["shape.go:6"],
+                ("implementation", "main.go", 5, 13): ["shape.go:4"],
+                ("references", "shape/shape.go", 4, 17): [
+                    *("main.go:5", "shape.go:4", "shape.go:6", "shape.go:6")
+                ],
+            }
+        )
+        names = {one["identifier"] for one in vertices(self.out, "moniker")}
+        wanted = {"Shape", "Shape.Area", "Box", "Box.Side", "Box.Area"}
+        self.assertEqual(names, {f"example.org/m/shape.{name}" for name in wanted})
+
+    def test_joined(self) -> None:
+        """A use of a module that is on the server leads to its project."""
+        whole, go = self.folder, 'package user\n\nimport "example.org/m/shape"\n'
+        os.mkdir(os.path.join(self.home, "user"))
+        for name, text in {
+            "user.go": f"{go}\nvar Box = shape.Box{{Side: 1}}\n",
+            "go.mod": "module example.org/user\n\ngo 1.19\n\nrequire example.org/m v1.0.0\n"
+            f"replace example.org/m => {whole}\n",
+        }.items():
+            with open(os.path.join(self.home, "user", name), "w", encoding="utf-8") as file:
+                file.write(text)
+        status, said = self.index("--package", "gomod example.org/m v1.0.0")
+        self.assertEqual(status, 0, said)
+        self.upload("shapes")
+        self.folder = os.path.join(self.home, "user")
+        status, said = self.index("--on-server", "example.org/m", GOFLAGS="-mod=mod", GOPROXY="off")
+        self.assertEqual(status, 0, said)
+        self.assert_answers(
+            {
+                ("definition", "user.go", 4, 16): ["shape.go:4"],
+                ("definition", "user.go", 4, 20): ["shape.go:4"],
+            }
+        )
+        uris = {one["uri"] for one in vertices(self.out, "document")}
+        self.assertEqual(uris, {uri_of(os.path.join(self.folder, "user.go"), [])})
+
+
+if __name__ == "__main__":
+    unittest.main()
