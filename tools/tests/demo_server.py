@@ -11,7 +11,7 @@ from codenav.cli.try_it import TAGS, run
 from codenav.faults import Failed
 from codenav.program import Program, build
 
-REQUESTS = 1000
+REQUESTS = 10_000
 PROJECTS = {"temperature": "demo/crate.raw.lsif", "kettle": "demo/user.raw.lsif"}
 MAP = ["--map", "file:///src/tr=demo", "--tags", "temperature=demo/crate"]
 

@@ -69,7 +69,7 @@ class Folder:
         path = self.named(text)
         if not os.path.exists(path):
             raise Refused(
-                404, "no such file", "It may have another name now: press f to find a file."
+                404, "no such file", "It may have another name now: the key f finds files there:"
             )
         return path
 

@@ -4,14 +4,16 @@ import { made } from "./lines.js";
 
 const section = document.getElementById("outline");
 const KINDS = { f: "fn", m: "member", s: "struct", g: "enum", i: "trait", t: "type", n: "mod", c: "class", v: "var", M: "macro", e: "value", P: "fn", d: "macro", C: "const" };
+const RUST = { ...KINDS, c: "impl", m: "field", P: "fn" };
 let lines = [];
 
 export function fillSymbols(names, line) {
+  const kinds = location.pathname.endsWith(".rs") ? RUST : KINDS;
   const rows = names.map((name) => {
     const item = made("li", "");
     const link = made("a", "");
     link.href = name.href;
-    link.append(made("span", KINDS[name.kind] ?? name.kind, "kind"), " ", made("span", name.name));
+    link.append(made("span", kinds[name.kind] ?? name.kind, "kind"), " ", made("span", name.name));
     item.append(link);
     return item;
   });
