@@ -117,12 +117,7 @@ def names_by(
     reader: Reader, servers: Sequence[str], name: str, parameters: dict[str, str]
 ) -> list[Found]:
     """The names that are found at several servers."""
-
-    def listed(url: str) -> Any:
-        return reader.fetch_from(url)("/projects", {}, "projects")
-
-    with mock.patch("codenav.asking.all_servers.listed", listed):
-        return names_of_all(servers, name, parameters, reader.fetch_from)
+    return names_of_all(servers, name, parameters, reader.fetch_from)
 
 
 class AskedMeanwhile(unittest.TestCase):

@@ -358,7 +358,7 @@ class Published(OnFolder):
             file.write("module m\n")
         status, said = self.publish()
         self.assertEqual(status, 2)
-        self.assertIn("scip-go would index this, and isn't on the path\n", said)
+        self.assertIn("scip-go would index this, and isn't on the path; --no-index uploads tags alone\n", said)
 
 
 @unittest.skipUnless(shutil.which("clangd"), "clangd isn't installed")

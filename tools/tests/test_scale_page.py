@@ -84,7 +84,7 @@ class Page(unittest.TestCase):
         """A line a machine, each with a front of its own before its server, which has neither TLS
         nor a login."""
         said = " ".join(text_of(PAGE).split())
-        self.assertIn("`listen 10.0.0.1:8088;` in place of `listen 443 ssl;`", said)
+        self.assertIn("`listen 10.0.0.1:8088;` in place of those of 443", said)
         self.assertIn("`off` in place of `$codenav_login`", said)
 
         def plain(text: str, front: Front, places: list[str]) -> str:

@@ -70,6 +70,7 @@ class OnServers(unittest.TestCase):
                 os.environ,
                 {
                     "SSL_CERT_FILE": f"{self.front.folder}/codenav/certificate.pem",
+                    "CODENAV_URL": self.front.url,
                     "CODENAV_USER": "ci:secret",
                 },
             )

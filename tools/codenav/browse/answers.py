@@ -70,7 +70,8 @@ class Browser:
                     answer = self.references(view, reply, at, parameters)
             except NotThere as fault:
                 return {"places": [], "nodes": [], "said": about(fault), "is_new": True}
-        return {**answer, "said": said(answer["said"], notes, reply.note, reply.of)}
+        own = "" if what == "references" and reply.note else answer["said"]
+        return {**answer, "said": said(own, notes, reply.note, reply.of)}
 
     def references(
         self, view: View, reply: Reply, at: Place, parameters: Parameters

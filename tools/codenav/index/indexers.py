@@ -108,7 +108,7 @@ def fitting(folder: str) -> Choice:
     if at_top and not at_hand:
         programs = " or ".join(one.program() for one in at_top)
         raise NotInstalled(
-            f"{folder}: {programs} would index this, and isn't on the path; --no-index uploads tags alone"
+            f"{folder}: {programs} would index this, and isn't on the path"
         )
     indexer = at_hand[0] if at_hand else None
     return Choice(indexer, tuple(left(one, found[one]) for one in found if one != indexer))

@@ -7,7 +7,7 @@ from __future__ import annotations
 import os
 import shutil
 from contextlib import suppress
-from typing import TYPE_CHECKING, Iterator, Optional, Sequence, Union
+from typing import TYPE_CHECKING, Iterator, Optional, Union
 
 from codenav.addresses import folder_address
 from codenav.dumps.check import explain
@@ -132,7 +132,7 @@ class Making:
             indexing = Indexing(self.folder, IndexHow(), self.shows)
         except BadCall as other:
             if fault is not None:
-                raise fault from None
+                raise BadCall(f"{fault}; --no-index uploads tags alone") from None
             self.lacking = MISSING["lsif"] if isinstance(other, NoLanguage) else str(other)
             return ""
         if fault is not None:
