@@ -360,6 +360,16 @@ class Published(OnFolder):
         self.assertEqual(status, 2)
         self.assertIn("scip-go would index this, and isn't on the path\n", said)
 
+    def test_another_language(self) -> None:
+        """Files of C don't take the place of an index of Python."""
+        with open(os.path.join(self.folder, "setup.py"), "w", encoding="utf-8") as file:
+            file.write("")
+        status, said = self.publish("clangd")
+        self.assertEqual(status, 2)
+        self.assertTrue(
+            said.endswith("scip-python would index this, and isn't on the path\n"), said
+        )
+
 
 @unittest.skipUnless(shutil.which("clangd"), "clangd isn't installed")
 class Clangd(OnFolder):

@@ -69,7 +69,13 @@ def named(name: str) -> Indexer:
 
 
 class NotInstalled(BadCall):
-    """A checkout whose indexers aren't installed."""
+    """A checkout whose indexers, by their programs, aren't installed."""
+
+    def __init__(self, folder: str, programs: list[str]) -> None:
+        super().__init__(
+            f"{folder}: {' or '.join(programs)} would index this, and isn't on the path"
+        )
+        self.programs = programs
 
 
 def fitting(folder: str) -> Optional[Indexer]:
@@ -82,9 +88,7 @@ def fitting(folder: str) -> Optional[Indexer]:
                 return indexer
             missing.append(indexer.program())
     if missing:
-        raise NotInstalled(
-            f"{folder}: {' or '.join(missing)} would index this, and isn't on the path"
-        )
+        raise NotInstalled(folder, missing)
     return None
 
 

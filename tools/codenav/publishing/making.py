@@ -129,7 +129,8 @@ class Making:
 
     def asked_dump(self, work: str, fault: Optional[NotInstalled]) -> str:
         """The file with the dump that is made by asking language servers, where no indexer is
-        installed; empty where there's none of these either. Raises the fault there."""
+        installed; empty where there's none of these either. Raises the fault there, and where the
+        missing indexer is of another language: a part would take the place of an index of all."""
         try:
             indexing = Indexing(self.folder, IndexHow(), self.shows)
         except BadCall as other:
@@ -138,6 +139,8 @@ class Making:
             self.lacking = MISSING["lsif"] if isinstance(other, NoLanguage) else str(other)
             return ""
         if fault is not None:
+            if not any(language.indexer in fault.programs for language, _ in indexing.servers):
+                raise fault
             self.shows.warn(f"{fault}: a language server is asked")
         path = os.path.join(work, "asked.lsif")
         outcome = indexing.write(path, work)
