@@ -413,6 +413,47 @@ int first(struct box *box) {
 
 
 @unittest.skipUnless(shutil.which("clangd"), "clangd isn't installed")
+class CPlusPlus(OnFolder):
+    files = {
+        "shape.hpp": """#pragma once
+struct Shape { virtual int area() const = 0; };
+struct Box : Shape { int area() const override; int side = 2; };
+int twice(int a);
+double twice(double a);
+template <class T> T same(T a) { return a; }
+""",
+        "shape.cpp": """#include "shape.hpp"
+int Box::area() const { return side * side; }
+int twice(int a) { return a + a; }
+double twice(double a) { return a + a; }
+""",
+        "main.cpp": """#include "shape.hpp"
+int main() {
+  Box box; Shape &shape = box;
+  return shape.area() + twice(1) + int(twice(1.0)) + same(3);
+}
+""",
+    }
+
+    def test_answers(self) -> None:
+        """Overloads by their types, what overrides, and templates."""
+        status, said = self.index()
+        self.assertEqual(status, 0, said)
+        self.assert_answers(
+            {
+                ("definition", "main.cpp", 2, 2): ["shape.hpp:2"],
+                ("definition", "main.cpp", 3, 15): ["shape.hpp:1"],
+                ("implementation", "main.cpp", 3, 15): ["shape.cpp:1"],
+                ("definition", "main.cpp", 3, 24): ["shape.cpp:2"],
+                ("definition", "main.cpp", 3, 39): ["shape.cpp:3"],
+                ("declaration", "main.cpp", 3, 39): ["shape.hpp:4"],
+                ("definition", "main.cpp", 3, 53): ["shape.hpp:5"],
+                ("references", "shape.cpp", 3, 7): ["main.cpp:3", "shape.cpp:3", "shape.hpp:4"],
+            }
+        )
+
+
+@unittest.skipUnless(shutil.which("clangd"), "clangd isn't installed")
 class OddNames(OnFolder):
     files = {
         "a b/(ü)+&=@.h": "int both(void);\n",
