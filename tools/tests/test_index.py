@@ -358,7 +358,19 @@ class Published(OnFolder):
             file.write("module m\n")
         status, said = self.publish()
         self.assertEqual(status, 2)
-        self.assertIn("scip-go would index this, and isn't on the path; --no-index uploads tags alone\n", said)
+        self.assertIn(
+            "scip-go would index this, and isn't on the path; --no-index uploads tags alone\n", said
+        )
+
+    def test_another_language(self) -> None:
+        """Files of C don't take the place of an index of Python."""
+        with open(os.path.join(self.folder, "setup.py"), "w", encoding="utf-8") as file:
+            file.write("")
+        status, said = self.publish("clangd")
+        self.assertEqual(status, 2)
+        self.assertTrue(
+            said.endswith("scip-python would index this, and isn't on the path\n"), said
+        )
 
 
 @unittest.skipUnless(shutil.which("clangd"), "clangd isn't installed")
@@ -400,6 +412,47 @@ int first(struct box *box) {
         names = {one["identifier"] for one in vertices(self.out, "moniker")}
         wanted = {"LIMIT", "kind", "kind.SMALL", "box", "box.kind", "both"}
         self.assertEqual(names, {f"api.h:{name}" for name in wanted})
+
+
+@unittest.skipUnless(shutil.which("clangd"), "clangd isn't installed")
+class CPlusPlus(OnFolder):
+    files = {
+        "shape.hpp": """#pragma once
+struct Shape { virtual int area() const = 0; };
+struct Box : Shape { int area() const override; int side = 2; };
+int twice(int a);
+double twice(double a);
+template <class T> T same(T a) { return a; }
+""",
+        "shape.cpp": """#include "shape.hpp"
+int Box::area() const { return side * side; }
+int twice(int a) { return a + a; }
+double twice(double a) { return a + a; }
+""",
+        "main.cpp": """#include "shape.hpp"
+int main() {
+  Box box; Shape &shape = box;
+  return shape.area() + twice(1) + int(twice(1.0)) + same(3);
+}
+""",
+    }
+
+    def test_answers(self) -> None:
+        """Overloads by their types, what overrides, and templates."""
+        status, said = self.index()
+        self.assertEqual(status, 0, said)
+        self.assert_answers(
+            {
+                ("definition", "main.cpp", 2, 2): ["shape.hpp:2"],
+                ("definition", "main.cpp", 3, 15): ["shape.hpp:1"],
+                ("implementation", "main.cpp", 3, 15): ["shape.cpp:1"],
+                ("definition", "main.cpp", 3, 24): ["shape.cpp:2"],
+                ("definition", "main.cpp", 3, 39): ["shape.cpp:3"],
+                ("declaration", "main.cpp", 3, 39): ["shape.hpp:4"],
+                ("definition", "main.cpp", 3, 53): ["shape.hpp:5"],
+                ("references", "shape.cpp", 3, 7): ["main.cpp:3", "shape.cpp:3", "shape.hpp:4"],
+            }
+        )
 
 
 @unittest.skipUnless(shutil.which("clangd"), "clangd isn't installed")

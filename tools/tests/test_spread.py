@@ -15,6 +15,7 @@ from unittest import mock
 from codenav.cli.ask import ASK
 from codenav.cli.prepare import PREPARE
 from codenav.cli.publish import PUBLISH
+from codenav.client.login import named
 from codenav.faults import NoReply
 from codenav.limits import MOST_ELEMENTS
 from codenav.program import Program, Running, free_port
@@ -65,12 +66,12 @@ class OnServers(unittest.TestCase):
         self.front = self.enterContext(
             fronted("lua", os.path.join(self.folder, "front"), places, longest=self.longest)
         )
+        named(self.front.url)
         self.enterContext(
             mock.patch.dict(
                 os.environ,
                 {
                     "SSL_CERT_FILE": f"{self.front.folder}/codenav/certificate.pem",
-                    "CODENAV_URL": self.front.url,
                     "CODENAV_USER": "ci:secret",
                 },
             )

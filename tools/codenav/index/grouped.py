@@ -32,6 +32,11 @@ class Grouped:
             return Place(place.uri, 0, 0, 0, 0)
         return self.found.words.get(place.at, place)
 
+    def implementing(self, word: Place) -> list[Place]:
+        """Where what a word leads to is implemented: the definitions of what the server names."""
+        places = map(self.snapped, self.found.implementations.get(word, []))
+        return sorted({to for place in places for to in self.leads.get(place, [place])})
+
     def size(self, place: Place) -> tuple[int, int]:
         """How large the declaration at a place is, in lines and code units."""
         name = self.found.names.get(place.at)

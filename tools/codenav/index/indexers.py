@@ -75,7 +75,13 @@ def named(name: str) -> Indexer:
 
 
 class NotInstalled(BadCall):
-    """A checkout whose indexers aren't installed."""
+    """A checkout whose indexers, by their programs, aren't installed."""
+
+    def __init__(self, folder: str, programs: list[str]) -> None:
+        super().__init__(
+            f"{folder}: {' or '.join(programs)} would index this, and isn't on the path"
+        )
+        self.programs = programs
 
 
 class Choice(NamedTuple):
@@ -106,10 +112,7 @@ def fitting(folder: str) -> Choice:
     at_top = [one for one in INDEXERS if one in found and "/" not in found[one][0]]
     at_hand = [one for one in at_top if shutil.which(one.program())]
     if at_top and not at_hand:
-        programs = " or ".join(one.program() for one in at_top)
-        raise NotInstalled(
-            f"{folder}: {programs} would index this, and isn't on the path"
-        )
+        raise NotInstalled(folder, [one.program() for one in at_top])
     indexer = at_hand[0] if at_hand else None
     return Choice(indexer, tuple(left(one, found[one]) for one in found if one != indexer))
 

@@ -42,13 +42,15 @@ class ServerKind(NamedTuple):
 
 class Language(NamedTuple):
     """A language: the identifiers by which the protocol knows it, by the suffixes of its files; what
-    is at the top of a folder where it's built, and what is missed where none of that is there."""
+    is at the top of a folder where it's built, and what is missed where none of that is there; and the indexer that comes before the server.
+    """
 
     name: str
     suffixes: Mapping[str, str]
     server: ServerKind
     manifests: tuple[str, ...]
     without: str
+    indexer: str
 
 
 LANGUAGES = (
@@ -61,6 +63,7 @@ LANGUAGES = (
         ),
         ("compile_commands.json", "compile_flags.txt", "build/compile_commands.json"),
         "no compile_commands.json (`bear -- make` writes it): the server guesses how files are compiled",
+        "scip-clang",
     ),
     Language(
         "Go",
@@ -68,6 +71,7 @@ LANGUAGES = (
         ServerKind("gopls", "gopls and golang-go", go_settings),
         ("go.mod", "go.work"),
         "no go.mod: the server takes each folder for a package without a name",
+        "scip-go",
     ),
 )
 

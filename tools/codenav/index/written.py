@@ -47,10 +47,9 @@ class DumpWriter(Writer):
         """Writes documents and their ranges: the words that lead somewhere, and what is led to."""
         by_uri: dict[str, set[Place]] = {uri: set() for uri in uris}
         grouped = self.grouped
-        implemented = [
-            place for places in grouped.found.implementations.values() for place in places
-        ]
-        for place in [*grouped.leads, *grouped.symbols, *map(grouped.snapped, implemented)]:
+        words = grouped.found.implementations
+        implemented = [place for word in words for place in grouped.implementing(word)]
+        for place in [*grouped.leads, *grouped.symbols, *implemented]:
             if not self.monikers.is_elsewhere(place.uri):
                 by_uri.setdefault(place.uri, set()).add(place)
         for uri, places in by_uri.items():
@@ -132,8 +131,7 @@ class DumpWriter(Writer):
             self.listed("declaration", own, self.grouped.declared[symbol])
             found = self.grouped.found
             word = self.tags.get(symbol, symbol)
-            places = found.implementations.get(word, [])
-            self.listed("implementation", own, [self.grouped.snapped(one) for one in places])
+            self.listed("implementation", own, self.grouped.implementing(word))
             self.hover(own, found.hovers.get(word))
             self.moniker(own, symbol)
         return self.sets[symbol]

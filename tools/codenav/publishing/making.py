@@ -43,6 +43,7 @@ from codenav.texts.places import map_words, uri_of
 if TYPE_CHECKING:
     from codenav.dumps.scip.messages import IndexFile
 
+ALONE = "--no-index uploads tags alone"
 MISSING = {
     "lsif": "no indexer is known for what is here (--index)",
     "tags": "ctags isn't installed (Debian's universal-ctags)",
@@ -127,15 +128,18 @@ class Making:
 
     def asked_dump(self, work: str, fault: Optional[NotInstalled]) -> str:
         """The file with the dump that is made by asking language servers, where no indexer is
-        installed; empty where there's none of these either. Raises the fault there."""
+        installed; empty where there's none of these either. Raises the fault there, and where the
+        missing indexer is of another language: a part would take the place of an index of all."""
         try:
             indexing = Indexing(self.folder, IndexHow(), self.shows)
         except BadCall as other:
             if fault is not None:
-                raise BadCall(f"{fault}; --no-index uploads tags alone") from None
+                raise BadCall(f"{fault}; {ALONE}") from None
             self.lacking = MISSING["lsif"] if isinstance(other, NoLanguage) else str(other)
             return ""
         if fault is not None:
+            if not any(language.indexer in fault.programs for language, _ in indexing.servers):
+                raise BadCall(f"{fault}; {ALONE}")
             self.shows.warn(f"{fault}: a language server is asked")
         path = os.path.join(work, "asked.lsif")
         outcome = indexing.write(path, work)
