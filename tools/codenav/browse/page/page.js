@@ -252,9 +252,9 @@ const KEYS = {
 };
 
 function press(event) {
-  if (event.ctrlKey || event.altKey || event.metaKey || event.target.closest("dialog")) return;
+  if (event.ctrlKey || event.altKey || event.metaKey || event.target.closest("dialog[open]")) return;
   if (event.key === "Escape") return close();
-  if (event.target.matches("input")) return;
+  if (event.target.matches("input") && !event.target.closest("dialog")) return; // a dialog that was closed keeps the focus up to the next frame
   const inCode = code?.contains(event.target);
   const inList = element("places").contains(event.target);
   if (Object.hasOwn(KEYS, event.key)) {
