@@ -7,7 +7,6 @@ import re
 import tempfile
 import unittest
 from typing import Any, NamedTuple, Optional, Sequence
-from unittest import mock
 
 from codenav.asking.all_servers import names_of_all
 from codenav.asking.index import Found, Index

@@ -368,9 +368,10 @@ class Published(OnFolder):
             file.write("")
         status, said = self.publish("clangd")
         self.assertEqual(status, 2)
-        self.assertTrue(
-            said.endswith("scip-python would index this, and isn't on the path\n"), said
+        text = (
+            "scip-python would index this, and isn't on the path; --no-index uploads tags alone\n"
         )
+        self.assertTrue(said.endswith(text), said)
 
 
 @unittest.skipUnless(shutil.which("clangd"), "clangd isn't installed")
