@@ -166,6 +166,8 @@ class Servers(unittest.TestCase):
         address."""
         answers = {
             "not a reply of codenav, status 200$": status("200 OK", body=HTML),
+            "not a reply of codenav, status 200$ ": status("200 OK", body='{"x":[1]}'),
+            "not a reply of codenav, status 404$": status("404 Not Found", body='{"x":[1]}'),
             "status 401, a login is asked for: CODENAV_TOKEN": status(
                 "401 Unauthorized", body=HTML
             ),

@@ -21,6 +21,7 @@ from unittest import mock
 from codenav import limits
 from codenav.cli.ask import ASK
 from codenav.cli.publish import PUBLISH, table
+from codenav.client.http import address, found_in, request
 from codenav.client.projects import listed
 from codenav.dumps.dump import is_scip
 from codenav.index.indexers import INDEXERS
@@ -392,6 +393,16 @@ class Publish(OnCheckout):
             [line.split() for line in said[3:]],
             [["dump", *"no indexer is known for what is here (--index)".split()]],
         )
+
+    def test_what_an_indexer_leaves(self) -> None:
+        """Of a folder without git, what its indexer writes there has no tags."""
+        folder = os.path.join(self.home, "plain")
+        shutil.copytree(CRATE, folder)
+        shutil.rmtree(os.path.join(folder, "target"), ignore_errors=True)
+        line = f"echo 'int left;' >left.c; cat {RAW}"
+        self.assertEqual(self.published("--index", line, "app", folder)[0], 0)
+        asked = address(self.url, "/names", {"name": "left", "project": "app"})
+        self.assertEqual(found_in(request(asked), "tags"), [])
 
     def test_a_dry_run(self) -> None:
         kept = os.path.join(self.home, "kept")

@@ -4,7 +4,7 @@ import os
 import shutil
 import unittest
 
-from codenav.index.tags_file import tagged
+from codenav.index.tags_file import files_of, tagged
 from tests.repository import InRepository
 
 SOURCE = "int two(void) { return 2; }\n"
@@ -15,7 +15,7 @@ class Tagging(InRepository):
     def lines(self) -> list[tuple[str, str]]:
         """The name and the file of each tag, as they stand in the file."""
         path = os.path.join(self.home, "tags")
-        count, left_out = tagged(self.top, path)
+        count, left_out = tagged(self.top, files_of(self.top), path)
         with open(path, encoding="utf-8") as file:
             rows = file.read().splitlines()
         self.assertEqual((len(rows), dict(left_out)), (count, {}))

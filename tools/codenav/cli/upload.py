@@ -88,12 +88,12 @@ def upload_file(call: UploadCall, server: str, project: str, path: str) -> int:
         if call.once:
             key = once_key(part, file, profile or "1")
         answer, over = put_body(server, Body(project, part, name, profile), file, key, call.retry)
-    if reply_in(answer) is None:
+    reply = reply_in(answer) or {}
+    if ("count" if answer.status == 200 else "fault") not in reply:
         raise BadCall(refusal_of(answer))
     print(answer.body.decode(), flush=True)
     for one in over:
         print(f"{TOOL}: {one}: it can't be accepted", file=sys.stderr)
-    reply = reply_in(answer) or {}
     if answer.status == 422 and "line" in reply and path != "-":
         fault = f"line {reply['line']}: {refusal_of(answer)}"
         words = shlex.join(["codenav", "explain", path, fault])

@@ -7,7 +7,7 @@ import subprocess
 import tempfile
 from collections import Counter
 from contextlib import contextmanager
-from typing import IO, Iterator, Optional
+from typing import IO, Iterable, Iterator, Optional
 
 from codenav.faults import BadCall
 from codenav.limits import MOST_BODY_BYTES, MOST_TAG_LINES
@@ -92,8 +92,10 @@ def ctags(folder: str, names: IO[bytes]) -> Iterator["subprocess.Popen[bytes]"]:
             raise
 
 
-def tagged(folder: str, path: str, is_cut: bool = False) -> tuple[int, Counter[str]]:
-    """Writes the tags file of a checkout; answers how many lines it has, and how many were left
+def tagged(
+    folder: str, files: Iterable[bytes], path: str, is_cut: bool = False
+) -> tuple[int, Counter[str]]:
+    """Writes the tags file of files of a checkout; answers how many lines it has, and how many were left
     out, by the server's codes. One that's cut afterwards may be larger than what the server takes.
 
     Files are named from `./` on, which no option begins with; and no options of the checkout's
@@ -101,7 +103,7 @@ def tagged(folder: str, path: str, is_cut: bool = False) -> tuple[int, Counter[s
     """
     count, written, left_out = 0, 0, Counter[str]()
     with tempfile.TemporaryFile() as names, open(path, "wb") as out:
-        names.writelines(b"./" + name + b"\n" for name in files_of(folder))
+        names.writelines(b"./" + name + b"\n" for name in files)
         names.seek(0)
         with ctags(folder, names) as run:
             for line in run.stdout or ():

@@ -18,12 +18,11 @@ from codenav.dumps.prepare.prepare import prepare
 from codenav.dumps.scip.options import ScipOptions
 from codenav.faults import BadCall, NotADump, Unfit
 from codenav.files import whole_file
+from codenav.index import tags_file
 from codenav.index.folder import TO_MIND
 from codenav.index.folder import How as IndexHow
 from codenav.index.folder import Indexing, NoLanguage
 from codenav.index.indexers import Choice, NotInstalled, fitting, indexed, named
-from codenav.index.tags_file import LEFT_OUT as TAGS_LEFT_OUT
-from codenav.index.tags_file import tagged
 from codenav.names import set_name
 from codenav.outcome import MENDED, Outcome
 from codenav.program import Program
@@ -75,6 +74,7 @@ class Making:
 
     def make(self, work: str) -> Made:
         """Makes all in a folder, and checks it. Raises Refused, BadCall and NotADump."""
+        self.files = list(tags_file.files_of(self.folder))  # without what an indexer leaves there
         raw, bodies, files = self.raw_dump(work), list[Body](), None
         if raw:
             dump = self.prepared_dump(raw, work)
@@ -127,9 +127,8 @@ class Making:
         return Choice(named(self.how.indexer), ()) if self.how.indexer else fitting(self.folder)
 
     def asked_dump(self, work: str, fault: Optional[NotInstalled]) -> str:
-        """The file with the dump that is made by asking language servers, where no indexer is
-        installed; empty where there's none of these either. Raises the fault there, and where the
-        missing indexer is of another language: a part would take the place of an index of all."""
+        """The file with the dump that is made by asking language servers; empty where there's none.
+        Raises BadCall where an indexer that isn't installed is of another language than these."""
         try:
             indexing = Indexing(self.folder, IndexHow(), self.shows)
         except BadCall as other:
@@ -235,10 +234,11 @@ class Making:
             return ""
         path = os.path.join(work, "tags")
         self.shows.begin("tags by ctags")
-        count, left_out = tagged(self.folder, path, self.is_set)
+        count, left_out = tags_file.tagged(self.folder, self.files, path, self.is_set)
         self.shows.end(f"{count} tags")
         self.left_out += [
-            Row("tags", number, TAGS_LEFT_OUT[code]) for code, number in sorted(left_out.items())
+            Row("tags", number, tags_file.LEFT_OUT[code])
+            for code, number in sorted(left_out.items())
         ]
         return path if count or may_be_empty else ""
 
