@@ -16,15 +16,17 @@ import subprocess
 import sys
 import tempfile
 from concurrent.futures import ThreadPoolExecutor
-from typing import Any, Callable, Iterator, NamedTuple
+from typing import Any, Callable, Iterator
 
 Element = dict[str, Any]
 Shape = Callable[[int], list[Element]]
-ELEMENTS = 2000
-# the most bytes asked for, for a byte of the dump, and the most instructions for a dump twice as
-# long, in hundredths of those for the shorter one
+ELEMENTS = 2_000
+LONG = 10
+"""Chains have so many times as many elements, since a step along one is cheap."""
+# the most bytes asked for, for a byte of the dump, and the most times as many instructions for a
+# dump twice as long
 MOST_BYTES = {"check": 60, "upload": 200}
-MOST_GROWTH = 240
+MOST_GROWTH = 2.1
 
 
 def vertex(label: str, **members: Any) -> Element:
@@ -135,13 +137,6 @@ SHAPES: tuple[Shape, ...] = (
 )
 
 
-class Cost(NamedTuple):
-    """What a call of the program cost."""
-
-    instructions: int
-    bytes: int
-
-
 def text_of(elements: list[Element]) -> bytes:
     """The lines of a dump."""
     rows = ({"id": number, **one} for number, one in enumerate(elements, start=1))
@@ -161,33 +156,32 @@ COUNTS = ["--tool=cachegrind", "--cache-sim=no", "--cachegrind-out-file=/dev/nul
 HEAP = ["--undef-value-errors=no", "--leak-check=no"]
 
 
-def cost_of(program: str, kind: str, body: bytes, name: str, room: str) -> Cost:
-    """What a check or an upload of a dump costs."""
-    path = os.path.join(room, name)
+def call_of(program: str, kind: str, body: bytes, path: str) -> list[str]:
+    """A call that checks or uploads a dump, which a file gets."""
     with open(path, "wb") as file:
         if kind == "upload":
             line = "PUT /projects/app/lsif?key=k HTTP/1.1\r\nHost: localhost\r\n"
             file.write(f"{line}Content-Length: {len(body)}\r\n\r\n".encode())
         file.write(body)
-    words = [program, *(["check-lsif"] if kind == "check" else ["replay", ":memory:"]), path]
-    instructions = number_in(words, COUNTS, r"I\s+refs:\s+([0-9,]+)")
-    if name.endswith("1"):
-        return Cost(instructions, number_in(words, HEAP, r"([0-9,]+) bytes allocated"))
-    return Cost(instructions, 0)
+    return [program, *(["check-lsif"] if kind == "check" else ["replay", ":memory:"]), path]
 
 
 def row_of(program: str, kind: str, shape: Shape, room: str) -> str:
     """A line for a shape; it ends with what is over a limit."""
-    small, large = text_of(shape(ELEMENTS)), text_of(shape(2 * ELEMENTS))
-    name = f"{kind}-{shape.__name__}"
-    first = cost_of(program, kind, small, f"{name}-1", room)
-    second = cost_of(program, kind, large, f"{name}-2", room)
-    a_byte = first.bytes / len(small)
-    growth = 100 * second.instructions * len(small) // (first.instructions * len(large)) * 2
+    count = ELEMENTS * (LONG if shape in (fan, fan_of_ranges) else 1)
+    path = os.path.join(room, f"{kind}-{shape.__name__}")
+    small = text_of(shape(ELEMENTS))
+    said = number_in(call_of(program, kind, small, path), HEAP, r"([0-9,]+) bytes allocated")
+    a_byte, cost = said / len(small), []
+    for own in count, 2 * count:
+        body = text_of(shape(own))
+        counted = number_in(call_of(program, kind, body, path), COUNTS, r"I\s+refs:\s+([0-9,]+)")
+        cost.append(counted / len(body))
+    growth = 2 * cost[1] / cost[0]
     over = [f"over {MOST_BYTES[kind]} bytes"] * (a_byte > MOST_BYTES[kind])
-    over += [f"over {MOST_GROWTH / 100} times"] * (growth > MOST_GROWTH)
-    said = f"{kind} {shape.__name__}: {a_byte:.1f} bytes for a byte, {growth / 100} times"
-    return said + (f": {', '.join(over)}" if over else "")
+    over += [f"over {MOST_GROWTH} times"] * (growth > MOST_GROWTH)
+    line = f"{kind} {shape.__name__}: {a_byte:.1f} bytes for a byte, {growth:.2f} times"
+    return line + (f": {', '.join(over)}" if over else "")
 
 
 def main() -> int:

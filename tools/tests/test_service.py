@@ -406,6 +406,8 @@ class Copies(OnService):
         shutil.rmtree(self.copies, ignore_errors=True)
         os.unlink(f"{self.folder}/lock")
         user = ("setpriv", f"--reuid={NOBODY}", f"--regid={NOBODY}", "--clear-groups")
+        # where the service's user may call it
+        self.program = shutil.copy(self.program, f"{self.base}/program")
         for by in (), user, user:
             status, said = self.backup("--keep", "2", by=by)
             self.assertEqual((status, said.count("Permission denied")), (0, 0), said)

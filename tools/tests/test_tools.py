@@ -575,7 +575,7 @@ class Upload(unittest.TestCase):
         )
 
     def test_one_request(self) -> None:
-        url, done = "http://127.0.0.1:1/projects/app/", Answer("", 200, b"{}")
+        url, done = "http://127.0.0.1:1/projects/app/", Answer("", 200, b'{"count":1}')
         tags, dump = b"a\tb\t1\n", b"{}\n"
         for words, body, path in (
             (["--once"], tags, f"tags?key={projects.once_key('tags', io.BytesIO(tags), '1')}"),
@@ -604,7 +604,9 @@ class Upload(unittest.TestCase):
             self.assertEqual((status, said in warned.getvalue()), (2, True), warned.getvalue())
 
     def test_sending_again(self) -> None:
-        done, refused = Answer("", 200, b"{}"), Answer("", 0, fault="refused", may_come=True)
+        done, refused = Answer("", 200, b'{"count":1}'), Answer(
+            "", 0, fault="refused", may_come=True
+        )
         full = Answer("", 503, b'{"fault":"S01","text":"store refused"}')
         proxies = [Answer("", status, b"<html>") for status in (429, 502, 503, 504)]
         for end in refused, full, *proxies:
