@@ -7,6 +7,3 @@ mod span;
 
 pub use position::{NUMBER_LIMIT, Position, order_law};
 pub use span::Span;
-
-#[cfg(test)]
-mod tests;

@@ -1,6 +1,6 @@
 //! The index in a database: its tables, opened, made where there are none, and made of those of the
 //! format before; the parts of projects, replaced and removed; and what is selected of them. The
-//! tests call public functions alone, and are in the crate `test_databases`.
+//! tests call public functions alone, and are in the crate `test_tables`.
 #![tactic(auto)]
 
 mod bearers;

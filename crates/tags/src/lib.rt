@@ -25,6 +25,3 @@ pub use limits::LONGEST_LINE;
 pub use parts::{Part, split};
 pub use reader::{TagReader, read_tags};
 pub use tag::{Field, Tag};
-
-#[cfg(test)]
-mod tests;

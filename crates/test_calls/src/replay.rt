@@ -1,5 +1,5 @@
 //! A stream of requests by the program's call. The replies to streams are tested in the crate
-//! `test_streams`, over the desk that this call is of.
+//! `test_replay`, over the desk that this call is of.
 use crate::asserts::expect_equal;
 use calls::replay_in_memory;
 use samples::{Slow, UPLOADS, exchange, in_pieces, slow_writer};

@@ -1,11 +1,11 @@
 //! Tags files that are read or counted, their faults and their limits; and the parts of lines.
-use crate::checker::TagChecker;
-use crate::{
-    Code, LineFault, Part, SplitFault, Tag, TagReader, TagsFault, escape_law, grammar_law,
-    lines_law, read_tags, reading_law, split, state_law, text_law,
-};
 use std::alloc::{AllocError, Global};
 use std::test::Fail;
+use streams::Counted;
+use tags::{
+    Code, CountFault, LineFault, Part, SplitFault, Tag, TagReader, TagsFault, count_tags,
+    escape_law, grammar_law, lines_law, read_tags, reading_law, split, state_law, text_law,
+};
 
 /// Texts, and the number of their tags, or the first faulty line and its code. `␉` represents a
 /// tab, `␊` LF, `␍` CR and `␡` DEL.
@@ -64,22 +64,18 @@ T10 names descend
 T11 too many lines
 "#;
 
-/// The number of tags that a checker counts in a text.
-fn check(alloc: Global, text: &str) -> Result<u32, TagsFault> {
-    let mut checker = TagChecker::new(alloc);
-    for line in text.split_inclusive('\n') {
-        match line.strip_suffix('\n') {
-            Some(line) => checker.feed(Ok(line.as_bytes()), true)?,
-            None => checker.feed(Ok(line.as_bytes()), false)?,
-        }
-    }
-    checker.finish()
+/// The number of tags that are counted in these bytes.
+fn check(alloc: Global, text: &[u8]) -> Result<u32, CountFault> {
+    count_tags(alloc, &mut Counted::new(text))
 }
 
 /// The number of tags that are read of a text.
-fn count(alloc: Global, text: &str) -> Result<u32, TagsFault> {
-    let tags = read_tags(alloc, text.as_bytes())?;
-    Ok(u32::try_from(tags.len()).unwrap_or(u32::MAX))
+fn count(alloc: Global, text: &str) -> Result<u32, CountFault> {
+    match read_tags(alloc, text.as_bytes()) {
+        Ok(tags) => Ok(u32::try_from(tags.len()).unwrap_or(u32::MAX)),
+        Err(TagsFault::Line(fault)) => Err(CountFault::Line(fault)),
+        Err(TagsFault::Memory) => Err(CountFault::Memory),
+    }
 }
 
 /// The faulty line, where an answer names one.
@@ -98,7 +94,7 @@ fn fault(alloc: Global, text: &[u8]) -> Option<LineFault> {
 /// The number of a text's tags, or its first faulty line and the code.
 fn verdict(alloc: Global, text: &str) -> Result<String, AllocError> {
     let kept = count(alloc, text);
-    if check(alloc, text) != kept {
+    if check(alloc, text.as_bytes()) != kept {
         return String::from_str(
             alloc,
             "one where tags are kept, and another where they are counted",
@@ -106,11 +102,11 @@ fn verdict(alloc: Global, text: &str) -> Result<String, AllocError> {
     }
     match kept {
         Ok(tags) => format!(in alloc; "{tags}"),
-        Err(TagsFault::Line(fault)) => {
+        Err(CountFault::Line(fault)) => {
             let (line, code) = (fault.line, fault.code.name());
             format!(in alloc; "{line} {code}")
         }
-        Err(TagsFault::Memory) => String::from_str(alloc, "out of memory"),
+        Err(fault) => format!(in alloc; "{fault}"),
     }
 }
 
@@ -230,9 +226,9 @@ fn many_fields(rt: HostRuntime) -> Result<(), Fail> {
 }
 
 #[test]
-fn many_fields_in_a_checker(rt: HostRuntime) -> Result<(), Fail> {
+fn many_fields_counted(rt: HostRuntime) -> Result<(), Fail> {
     let text = fields(rt.alloc(), "x\tf.c\t1;\"\tf", '\t')?;
-    assert_eq!(rt; check(rt.alloc(), text.as_str()), Ok(1));
+    assert_eq!(rt; check(rt.alloc(), text.as_bytes()), Ok(1));
     Ok(())
 }
 
@@ -240,14 +236,6 @@ fn many_fields_in_a_checker(rt: HostRuntime) -> Result<(), Fail> {
 fn feed_reader(reader: &mut TagReader, times: u32) -> Result<(), TagsFault> {
     for _ in 0..times {
         reader.feed(Ok(b"!_TAG_X\t\t\r"), true)?;
-    }
-    Ok(())
-}
-
-/// Feeds a checker so many pseudo-tags.
-fn feed_checker(checker: &mut TagChecker, times: u32) -> Result<(), TagsFault> {
-    for _ in 0..times {
-        checker.feed(Ok(b"!_TAG_X\t\t\r"), true)?;
     }
     Ok(())
 }
@@ -261,17 +249,6 @@ fn over_in_a_reader(alloc: Global) -> Result<[Option<LineFault>; 3], TagsFault> 
     Ok([more, too_long, line_fault(reader.finish().err())])
 }
 
-/// What a checker of 100,000 lines, the last a tag, says of one more, of one that is too long, and
-/// at the end.
-fn over_in_a_checker(alloc: Global) -> Result<[Option<LineFault>; 3], TagsFault> {
-    let mut checker = TagChecker::new(alloc);
-    feed_checker(&mut checker, 99999)?;
-    checker.feed(Ok(b"x\tf.c\t1"), true)?;
-    let more = line_fault(checker.feed(Ok(b"!_TAG_X\t\t"), false).err());
-    let too_long = line_fault(checker.feed(Err(Code::T01), false).err());
-    Ok([more, too_long, line_fault(checker.finish().err())])
-}
-
 /// The number of tags of lines that a reader is fed.
 fn read_lines(alloc: Global, lines: &[&[u8]], ended: bool) -> Result<usize, TagsFault> {
     let mut reader = TagReader::new(alloc);
@@ -279,15 +256,6 @@ fn read_lines(alloc: Global, lines: &[&[u8]], ended: bool) -> Result<usize, Tags
         reader.feed(Ok(*line), ended)?;
     }
     Ok(reader.finish()?.len())
-}
-
-/// The number of tags of lines that a checker is fed.
-fn check_lines(alloc: Global, lines: &[&[u8]], ended: bool) -> Result<u32, TagsFault> {
-    let mut checker = TagChecker::new(alloc);
-    for line in lines {
-        checker.feed(Ok(*line), ended)?;
-    }
-    checker.finish()
 }
 
 #[test]
@@ -311,20 +279,47 @@ fn limits(rt: HostRuntime) -> Result<(), Fail> {
     Ok(())
 }
 
+/// The first faulty line where tags are counted.
+fn counted_fault(alloc: Global, text: &[u8]) -> Option<LineFault> {
+    match check(alloc, text) {
+        Err(CountFault::Line(fault)) => Some(fault),
+        _ => None,
+    }
+}
+
+/// 100,000 lines, the last a tag, and then a line of so many bytes.
+fn one_more(alloc: Global, length: usize) -> Result<Vec<u8>, AllocError> {
+    let mut text = Vec::new(alloc);
+    for _ in 0..99999 {
+        text.extend_from_slice(b"!_TAG_X\t\t\r\n")?;
+    }
+    text.extend_from_slice(b"x\tf.c\t1\n!_TAG_X\t\t")?;
+    for _ in 9..length {
+        text.push(b'x')?;
+    }
+    Ok(text)
+}
+
 #[test]
-fn limits_of_a_checker(rt: HostRuntime) -> Result<(), Fail> {
-    let code = Code::T09;
-    let over = Some(LineFault { line: 100001, code });
-    assert_eq!(rt; over_in_a_checker(rt.alloc())?, [over, over, over]);
-    let long = [b'x'; 65537];
-    let too_long = line_fault(check_lines(rt.alloc(), &[&long], false).err());
+fn limits_where_tags_are_counted(rt: HostRuntime) -> Result<(), Fail> {
+    let (code, line) = (Code::T09, 100001);
+    let more = one_more(rt.alloc(), 9)?;
+    assert_eq!(rt;
+        counted_fault(rt.alloc(), &more),
+        Some(LineFault { line, code })
+    );
     let code = Code::T01;
-    assert_eq!(rt; too_long, Some(LineFault { line: 1, code }));
-    let not_utf_8 = line_fault(check_lines(rt.alloc(), &[b"x\tf.c\t\xff"], true).err());
+    let too_long = one_more(rt.alloc(), 65537)?;
+    assert_eq!(rt;
+        counted_fault(rt.alloc(), &too_long),
+        Some(LineFault { line, code })
+    );
+    let found = counted_fault(rt.alloc(), &[b'x'; 65537]);
+    assert_eq!(rt; found, Some(LineFault { line: 1, code }));
     let code = Code::T02;
-    assert_eq!(rt; not_utf_8, Some(LineFault { line: 1, code }));
-    let names = [b"aaa\tf\t1".as_slice(), b"b\tf\t1", b"cc\tf\t1"];
-    assert_eq!(rt; check_lines(rt.alloc(), &names, true), Ok(3));
+    let found = counted_fault(rt.alloc(), b"x\tf.c\t\xff\n");
+    assert_eq!(rt; found, Some(LineFault { line: 1, code }));
+    assert_eq!(rt; check(rt.alloc(), b"aaa\tf\t1\nb\tf\t1\ncc\tf\t1\n"), Ok(3));
     Ok(())
 }
 

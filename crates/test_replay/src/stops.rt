@@ -13,7 +13,7 @@ use streams::Counted;
 use tables::{Tables, TablesFault};
 
 /// A dump under a key, and another, in which a range starts elsewhere, under a second; written as
-/// the streams of test_streams are.
+/// the streams of `replies.rt` are.
 const FIRST: &str =
     "PUT /projects/app/lsif?key=k1 < base => 200 {\"accepted\":\"lsif\",\"count\":11}";
 

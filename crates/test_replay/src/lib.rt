@@ -1,5 +1,5 @@
 //! Tests of streams of requests over the whole way: `http_edge` over `desk` over `tables`, as
-//! `codenav replay` has them.
+//! `codenav replay` has them; and of stores that stop in the midst of one.
 #![tactic(auto)]
 
 #[cfg(test)]
@@ -12,3 +12,5 @@ mod edge;
 mod malicious;
 #[cfg(test)]
 mod replies;
+#[cfg(test)]
+mod stops;

@@ -1,5 +1,5 @@
 //! Limits, order and packed forms of positions, and what spans cover, nest and overlap.
-use crate::{Position, Span, order_law};
+use positions::{Position, Span, order_law};
 use std::test::Fail;
 
 fn at(line: u32, character: u32) -> Result<Position, &'static str> {
