@@ -1,4 +1,6 @@
-"""Measures a set: splits a large dump and a small one, publishes both, asks both in turns, starts
+"""Measures sets.
+
+ask: splits a large dump and a small one, publishes both, asks both in turns, starts
 the server again, then changes one document of the large one, splits and publishes again. Prints
 what each stage took: wall clock, processor time of the tool and of the server, and the most memory
 of the tool with its processes and of the server.
@@ -7,10 +9,31 @@ Where it asks is chosen by chance among the ranges of the parts, of which one at
 memory. The document that's changed is that which most documents lead to among those that were
 asked for definitions.
 
+The others measure splitting, and show that it does as it should. They print for each call its
+status, the time, the processor time and the memory, and what it says last.
+
+index: SCIP indexes of as many symbols and more and more occurrences, and the dumps that are made of
+them. The parts have to be equal. It needs python3-protobuf.
+
+hostile: dumps of hostile shapes. What is refused has to be refused in one line, and with --lenient
+it has to be left out.
+
+alone: splits a prepared dump or an index, as the others have it done in a process of its own.
+
+file: a large set that comes to a service with a front, by uploads and by the file of a
+database: what each takes, and how long questions wait meanwhile. Two clients ask a project all the
+time; each answer has to be right, and none may fail.
+
+By file the set is put beside the project into a database that no server has (`publish --database`),
+and the service takes a turn to it (`restore --turn`).
 """
 
+from __future__ import annotations
+
 import argparse
+import filecmp
 import json
+import multiprocessing
 import os
 import random
 import re
@@ -19,21 +42,150 @@ import shutil
 import subprocess
 import sys
 import tempfile
+import threading
 import time
 from contextlib import contextmanager
 from dataclasses import dataclass, field
-from typing import Any, Iterator
+from typing import TYPE_CHECKING, Any, BinaryIO, Iterator, Union
 
-import servers  # noqa: F401  (the path of the tools)
-from splitting import split_words
+from inputs import field as scip_field
+from inputs import varint
+from servers import Spent, with_memory
 from watched import tool
 
 from codenav.asking.index import Index
 from codenav.client import http as client
 from codenav.client.http import found_in, request
+from codenav.dumps.dump import opened_dump
+from codenav.dumps.lsif.reading import Source
+from codenav.faults import Fault
 from codenav.program import Program, Running, free_port
+from codenav.progress import Quiet
+from codenav.service.folder import serving_of
 from codenav.sets.files import MANIFEST, read_documents, read_head
 from codenav.sets.manifest import Head
+from codenav.sets.split.split import SplitOptions, split
+from tests.fronts import Front, fronted, lacking
+from tests.hostile_dumps import SHAPES, Element
+from tests.servers import command, ended, free_row
+from tests.test_fronts import HOVER
+from tests.test_uploads import DUMP
+
+if TYPE_CHECKING:
+    from codenav.dumps.scip.messages import IndexFile
+
+LENIENT = ("alone makes", "referenceResults")
+MOST_MEMORY = 6 << 30
+USES = 400
+STEP = 7
+
+
+def occurrence(line: int, symbol: str, roles: int) -> bytes:
+    """An occurrence in a line of its own, as a field of a document."""
+    place = b"".join(map(varint, (line, 0, 4)))
+    return scip_field(
+        2, scip_field(1, place) + scip_field(2, symbol.encode()) + bytes([3 << 3]) + varint(roles)
+    )
+
+
+def documents(symbols: int, count: int) -> Iterator[bytes]:
+    """One document that defines all symbols, and others that use them in turn."""
+    names = [f"scip-x npm app 1.0.0 s{number}#" for number in range(symbols)]
+    said = [
+        scip_field(3, scip_field(1, name.encode()) + scip_field(3, name.encode())) for name in names
+    ]
+    defined = [occurrence(line, name, 1) for line, name in enumerate(names)]
+    yield b"".join([scip_field(1, b"src/all.ts"), *defined, *said])
+    for own in range(count):
+        first = own * USES * STEP
+        used = [names[(first + line * STEP) % symbols] for line in range(USES)]
+        path = f"src/{own % 31}/{own}.ts".encode()
+        yield b"".join(
+            [scip_field(1, path), *(occurrence(line, name, 0) for line, name in enumerate(used))]
+        )
+
+
+def write_index(out: BinaryIO, symbols: int, count: int) -> None:
+    """Writes an index, whose characters are UTF-16 code units."""
+    tool = scip_field(2, scip_field(1, b"scip-x") + scip_field(2, b"0.3"))
+    out.write(scip_field(1, tool + scip_field(3, b"file:///work/app") + bytes([4 << 3, 1])))
+    for body in documents(symbols, count):
+        out.write(scip_field(2, body + bytes([6 << 3, 2])))
+
+
+def split_words(dump: str, folder: str, *options: str) -> list[str]:
+    """What splits a dump or an index in a process of its own."""
+    return [sys.executable, "-B", os.path.abspath(__file__), "alone", *options, dump, folder]
+
+
+def split_alone(dump: str, folder: str, options: SplitOptions) -> int:
+    """Splits a dump or an index, and says what came of it; answers 2 where it's refused."""
+    try:
+        with opened_dump(dump) as source:
+            given: Union[str, IndexFile] = dump if isinstance(source, Source) else source
+            lines = split(given, options, folder, Quiet()).lines()
+    except Fault as fault:
+        lines, status = [str(fault)], fault.status
+    else:
+        status = 0
+    print("; ".join(lines), file=sys.stderr)
+    return status
+
+
+def done_by(what: str, words: list[str]) -> Spent:
+    """Calls a program, and prints what it takes and what it says last."""
+    own, memory = with_memory(*words)
+    print(
+        f"    {what}: status {own.status}, {own.passed:.1f} s, processor {own.used:.1f} s,"
+        f" {memory >> 20} MB: {(own.error.splitlines() or [''])[-1]}",
+        flush=True,
+    )
+    return own
+
+
+def compared(symbols: int, count: int, folder: str) -> None:
+    """Splits one index and its dump."""
+    index, dump = (os.path.join(folder, name) for name in ("index.scip", "dump.lsif"))
+    with open(index, "wb") as out:
+        write_index(out, symbols, count)
+    print(f"{symbols} symbols, {symbols + count * USES} occurrences", flush=True)
+    folders = [os.path.join(folder, name, "code") for name in ("of_dump", "of_index")]
+    done_by("prepare", tool("prepare", "--lenient", index, dump))
+    done_by("split", split_words(dump, folders[0]))
+    os.unlink(dump)
+    done_by("split", split_words(index, folders[1]))
+    names = os.listdir(folders[0])
+    _, differ, missing = filecmp.cmpfiles(folders[0], folders[1], names, shallow=False)
+    if differ or missing or len(os.listdir(folders[1])) != len(names):
+        sys.exit(f"splitting: {differ} differ, {missing} aren't in both")
+
+
+def write(path: str, elements: Iterator[Element]) -> None:
+    """Writes a dump, in a process of its own, whose memory goes with it."""
+    count = 0
+    with open(path, "w", encoding="utf-8") as out:
+        for count, element in enumerate(elements, 1):
+            out.write(json.dumps(element, separators=(",", ":")) + "\n")
+    print(f"    {count} elements", flush=True)
+
+
+def split_hostile(number: int, name: str, folder: str) -> None:
+    """Splits a dump of a hostile shape."""
+    make, size, refusal = SHAPES[name]
+    path = os.path.join(folder, "dump.lsif")
+    print(f"{number}. {name}", flush=True)
+    maker = multiprocessing.Process(target=write, args=(path, make(size)))
+    maker.start()
+    maker.join()
+    parts = os.path.join(folder, "code")
+    done = done_by("split", split_words(path, parts))
+    said = done.error.splitlines()
+    if (done.status, len(said), refusal in said[-1]) != (2 if refusal else 0, 1, True):
+        sys.exit(f"splitting: {name}: {said}")
+    if any(text in said[-1] for text in LENIENT):
+        if done_by("split", split_words(path, parts, "--lenient")).status != 0:
+            sys.exit(f"splitting: {name}: refused with --lenient too")
+
 
 TICKS = os.sysconf("SC_CLK_TCK")
 KINDS = {"definition": "places", "references": "places", "hover": "contents"}
@@ -251,7 +403,7 @@ def head_of(folder: str) -> Head:
     return read_head(os.path.join(folder, MANIFEST))
 
 
-def split(name: str, path: str, own: str, pid: int) -> None:
+def split_set(name: str, path: str, own: str, pid: int) -> None:
     """Splits a dump."""
     with stage(f"{name}, split", pid) as used:
         options = ["--jobs", PROCESSES, "--name", name.split()[0]]
@@ -275,7 +427,7 @@ def changed(large: str, own: str, uri: str, pid: int) -> str:
         os.makedirs(again, exist_ok=True)
         shutil.copy(os.path.join(own, MANIFEST), again)
         edited(large, uri, dump)
-        split("large again", dump, again, pid)
+        split_set("large again", dump, again, pid)
         os.unlink(dump)
         with open(known, "w", encoding="utf-8") as file:
             file.write(uri)
@@ -315,7 +467,7 @@ def measured(program: str, large: str, small: str, count: int, folder: str) -> N
     folders = {name: os.path.join(folder, name) for name in ("small", "large")}
     for (name, own), path in zip(folders.items(), (small, large)):
         if not os.path.exists(os.path.join(own, MANIFEST)):
-            split(name, path, own, server.pid)
+            split_set(name, path, own, server.pid)
         published(name, url, own, server.pid)
         print_size(database)
     askings = [Asking(url, name, points_of(own, count)) for name, own in folders.items()]
@@ -328,22 +480,161 @@ def measured(program: str, large: str, small: str, count: int, folder: str) -> N
     server.end()
 
 
-def main() -> None:
+RIGHT = 200, b'{"contents":"text"}'
+CLIENTS = 2
+PAUSE = 0.05
+
+
+class FrontAsking:
+    """Clients that ask a front all the time, and what their questions took."""
+
+    def __init__(self, front: Front) -> None:
+        self.front, self.took, self.wrong = front, list[float](), 0
+        self.is_over = threading.Event()
+        self.threads = [threading.Thread(target=self.ask) for _ in range(CLIENTS)]
+        for thread in self.threads:
+            thread.start()
+
+    def ask(self) -> None:
+        """Asks until it's over."""
+        while not self.is_over.wait(PAUSE):
+            began = time.monotonic()
+            status, _, body = self.front.ask("GET", HOVER)
+            self.took.append(time.monotonic() - began)
+            self.wrong += (status, body) != RIGHT
+
+    def line(self) -> str:
+        """Ends it, and says what questions took."""
+        self.is_over.set()
+        for thread in self.threads:
+            thread.join()
+        took = sorted(self.took)
+        waited = f"{took[len(took) // 2] * 1e3:.1f} ms at the median, {took[-1]:.2f} s at most"
+        long = sum(own > 1 for own in took)
+        return f"questions {len(took)}, wrong {self.wrong}, {waited}, {long} over a second"
+
+
+@contextmanager
+def service(program: str, folder: str) -> Iterator[Front]:
+    """A service with a front, which has the project that is asked."""
+    first, own = free_row(3), os.path.join(folder, "service")
+    os.makedirs(own)
+    os.makedirs(os.path.join(folder, "front"))
+    sides = [f"127.0.0.1:{first + 1}", f"127.0.0.1:{first + 2}"]
+    with fronted("lua", os.path.join(folder, "front"), sides, asked=first) as front:
+        words = ["--program", program, "--port", str(first), "--front"]
+        process = subprocess.Popen(
+            [*command("supervise"), *words, f"http://127.0.0.1:{front.local}", own]
+        )
+        try:
+            while front.ask("PUT", "/projects/app/lsif?key=k", (DUMP % "text").encode())[0] != 200:
+                time.sleep(PAUSE)
+            yield front
+        finally:
+            ended(process)
+
+
+def called_by(what: str, *words: str) -> None:
+    """Calls a tool, and prints what it said last and what it took."""
+    began, before = time.monotonic(), children_seconds()
+    done = subprocess.run(
+        [*command(words[0]), *words[1:]], capture_output=True, text=True, check=False
+    )
+    if done.returncode != 0:
+        sys.exit(done.stderr)
+    said = done.stdout.splitlines()[0]
+    took = time.monotonic() - began
+    print(
+        f"{what}: {took:.1f} s, processor {children_seconds() - before:.1f} s; {said}", flush=True
+    )
+
+
+def measured_by_file(program: str, dump: str, folder: str) -> None:
+    """Measures both ways."""
+    ways, made = [os.path.join(folder, way) for way in ("uploads", "file")], f"{folder}/made"
+    large = ["--program", program, "--set", "--no-tags", "--dump", dump]
+    with service(program, ways[0]) as front:
+        serving = serving_of(f"{ways[0]}/service")
+        assert serving is not None
+        asking = FrontAsking(front)
+        called_by("by uploads", "publish", *large, url_of(serving.server), "large", folder)
+        print(asking.line(), flush=True)
+    os.mkdir(made)
+    with Program(program).serve(f"{made}/index.db") as server:
+        with open(f"{folder}/app.lsif", "w", encoding="utf-8") as file:
+            file.write(DUMP % "text")
+        called_by("the project", "upload", server.url, "app", f"{folder}/app.lsif")
+    with service(program, ways[1]) as front:
+        asking = FrontAsking(front)
+        called_by(
+            "into a file", "publish", *large, "--database", f"{made}/index.db", "large", folder
+        )
+        print(asking.line(), flush=True)
+        asking = FrontAsking(front)
+        called_by("the turn to it", "restore", "--turn", made, f"{ways[1]}/service")
+        print(f"{asking.line()}; the file has {os.path.getsize(f'{made}/index.db') >> 20} MB")
+
+
+def url_of(process: int) -> str:
+    """The address of a server, by its command line."""
+    with open(f"/proc/{process}/cmdline", encoding="utf-8") as file:
+        words = file.read().split("\0")
+    return f"http://127.0.0.1:{words[words.index('--port') + 1]}"
+
+
+def main() -> int:
+    """Answers 0 where each answer was as it should be."""
     options = argparse.ArgumentParser(
         description=__doc__, formatter_class=argparse.RawDescriptionHelpFormatter
     )
-    options.add_argument("program", help="the built one")
-    options.add_argument("large", help="a prepared dump, as `bench/copies.py joined` makes one")
-    options.add_argument("small", help="another one")
-    options.add_argument("asked", nargs="?", type=int, default=300, help="of each kind; 300")
+    parts = options.add_subparsers(required=True, dest="part")
+    words = "ask", "index", "hostile", "alone", "file"
+    ask, index, hostile, alone, file = map(parts.add_parser, words)
+    for own in ask, file:
+        own.add_argument("program", help="the built one")
+    ask.add_argument("large", help="a prepared dump, as `bench/inputs.py joined` makes one")
+    ask.add_argument("small", help="another one")
+    ask.add_argument("asked", nargs="?", type=int, default=300, help="of each kind; 300")
     kept = "keeps the splits, and a later run takes those that it has"
-    options.add_argument("folder", nargs="?", help=kept)
+    ask.add_argument("folder", nargs="?", help=kept)
+    index.add_argument("symbols", nargs="?", type=int, default=2000, help="2000 without it")
+    counts = "documents of 400 occurrences; 20, 80 and 320"
+    index.add_argument("documents", nargs="*", type=int, help=counts)
+    shapes = "which of the shapes, from 1; all without it"
+    hostile.add_argument("numbers", nargs="*", type=int, metavar="NUMBER", help=shapes)
+    alone.add_argument("--name", default="code", help="of the set; code")
+    alone.add_argument("--jobs", type=int, default=1, help="so many processes; 1")
+    alone.add_argument("--lenient", action="store_true", help="leave out what can't be had")
+    alone.add_argument("dump", metavar="DUMP")
+    alone.add_argument("folder", metavar="FOLDER")
+    file.add_argument("dump", help="a prepared one, as `bench/inputs.py joined` makes it")
     given = options.parse_args()
-    with tempfile.TemporaryDirectory() as made:
-        folder = given.folder or made
-        os.makedirs(folder, exist_ok=True)
-        measured(given.program, given.large, given.small, given.asked, folder)
+    if given.part == "alone":
+        how = SplitOptions(given.name, is_lenient=given.lenient, jobs=given.jobs)
+        return split_alone(given.dump, given.folder, how)
+    if given.part == "file" and (why := lacking("lua")):
+        sys.exit(why)
+    if given.part == "hostile":
+        resource.setrlimit(resource.RLIMIT_AS, (MOST_MEMORY, resource.RLIM_INFINITY))
+        for number, name in enumerate(SHAPES, 1):
+            if not given.numbers or number in given.numbers:
+                with tempfile.TemporaryDirectory() as folder:
+                    split_hostile(number, name, folder)
+        return 0
+    if given.part == "index":
+        for count in given.documents or [20, 80, 320]:
+            with tempfile.TemporaryDirectory() as folder:
+                compared(given.symbols, count, folder)
+        return 0
+    with tempfile.TemporaryDirectory() as folder:
+        if given.part == "file":
+            measured_by_file(given.program, given.dump, folder)
+        else:
+            os.makedirs(given.folder or folder, exist_ok=True)
+            kept_in = given.folder or folder
+            measured(given.program, given.large, given.small, given.asked, kept_in)
+    return 0
 
 
 if __name__ == "__main__":
-    main()
+    sys.exit(main())

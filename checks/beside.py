@@ -26,9 +26,9 @@ from typing import Optional
 
 TOP = Path(__file__).resolve().parent.parent
 PYTHON = "python3", "-B"
-# the longest that a part may take, also on a slow machine: on four quiet processors all take ten
-# minutes at most
-SECONDS = 2400
+# the longest that a part may take, also on a slow machine: the tests of the tools take half an hour
+# beside the proofs
+SECONDS = 4800
 COUNTED = re.compile(r"(\d+) passed, (\d+) failed")
 RAN = re.compile(r"^Ran (\d+) tests? in ", re.M)
 NOT_PASSED = re.compile(r"(?:failures|errors|unexpected successes)=(\d+)")
@@ -198,6 +198,8 @@ def main() -> int:
     )
     options.add_argument("program", help="the built program, as crates/codenav/out/codenav")
     given = options.parse_args()
+    # Debian's Python, which has the libraries of the tools, goes before another one
+    os.environ["PATH"] = f"/usr/bin:{os.environ['PATH']}"
     program = os.path.abspath(given.program)
     if not os.access(program, os.X_OK):
         sys.exit(f"beside.py: {given.program} is no program")

@@ -4,6 +4,7 @@ the program, and what there is before and after it."""
 import hashlib
 import json
 import os
+import re
 import shutil
 import signal
 import subprocess
@@ -147,6 +148,11 @@ class Ended:
     status: int
     warned: str
     calls: list[str]
+
+
+def may_stay(calls: list[str]) -> bool:
+    """Whether what was refused is to remove a file, or to look into a folder that goes."""
+    return any(re.search(r"^\d+ \d+ \d (unlink|rmdir|open .*/tmp/[\w-]+$)", call) for call in calls)
 
 
 def processes_with(mark: str) -> list[int]:

@@ -1,7 +1,7 @@
 """Refuses each system call of the tools in turn, and kills them there, and prints what came of it.
 
 `publish`, `prepare`, `upload` and `remove` go from an old revision of a small crate to a new one,
-over servers of the program. Of each run one call that opens, writes, renames, removes, forks or
+over servers of the program; `supervise`, `turn`, `backup` and `restore` are of a service. Of each run one call that opens, writes, renames, removes, forks or
 connects fails, by an error that such a call may have, or the disk is full from then on, or the
 process is killed. Then:
 
@@ -9,7 +9,7 @@ process is killed. Then:
   or the new one;
 - what failed is said by one line, and its status is 2, or 1 where the server refused;
 - no file is left outside those that were asked for, but of a killed call in the system's temporary
-  folder, and no process;
+  folder, and beside the file that it wrote, where the next call takes it away; and no process;
 - the same call again ends well, and leaves what a call of which nothing was refused leaves.
 """
 
@@ -22,13 +22,15 @@ import tempfile
 from collections import Counter
 from concurrent.futures import ThreadPoolExecutor
 from pathlib import Path
-from typing import Any
+from typing import Any, Union
 
-from calls import MOST, WORDS, Ended, Files, Room, State, Word, Wrong
+from calls import MOST, WORDS, Ended, Files, Room, State, Wrong, may_stay
 from refusing import FULL, KILL, TOP, built
+from service_calls import WORDS as SERVICE
+from service_calls import ServiceRoom
 
 from codenav.program import Program
-from codenav.sets.files import MANIFEST, read_head
+from codenav.sets.files import MANIFEST, read_documents, read_head
 
 # Of all calls and their errors each run of the gate tries one of so many shares.
 TURNS = 29
@@ -40,6 +42,12 @@ STAGE = re.compile(r"codenav publish: (.* \([0-9.]+ s\)|mended: .*)")
 
 class Refusing(Room):
     """A room in which a system call is refused."""
+
+    def calls(self) -> list[str]:
+        """The system calls of a call of which none is refused."""
+        self.restore()
+        with self.servers():
+            return self.must(self.word.words).calls
 
     def tried(self, number: int, which: int) -> str:
         """Makes the call, of which a system call is refused, and once more; answers which call that
@@ -54,7 +62,10 @@ class Refusing(Room):
                 if again.status not in self.word.again:
                     raise Wrong(f"the same again: {again.status}, {again.warned}")
                 stays = which == KILL or may_stay(ended.calls)
-                self.judge_whole(self.state(), stays, "the same again: ")
+                if ended.status == 1 and UNREAD in ended.warned:
+                    self.judge_documents()
+                else:
+                    self.judge_whole(self.state(), stays, "the same again: ")
             except Wrong as fault:
                 how = HOW.get(which, f"refused by error {which}")
                 raise Wrong(f"{number} {call}: {how}: {fault}; {ended.warned[-300:]}") from None
@@ -94,7 +105,7 @@ class Refusing(Room):
             is_new = path not in known
             is_temporary = is_new and path.startswith("tmp/") and (was_killed or stays)
             is_out = is_new and path.startswith("out/") and was_killed
-            is_left = is_new and path.endswith(".new") and stays
+            is_left = is_new and path.endswith(".new") and (stays or was_killed)
             is_named = path.startswith("out/set/") and Path(path).stem in named
             if is_named and files.get(path) is None:
                 raise Wrong(f"{path} is named by the manifest, and isn't there")
@@ -104,6 +115,24 @@ class Refusing(Room):
             if is_temporary or is_out or is_left:
                 continue
             raise Wrong(f"{path} is {files.get(path)}, neither of {values}")
+
+    def documents(self) -> set[str]:
+        """The documents of the set that was made, each part of which is there."""
+        out = self.base / "out/set"
+        head = read_head(str(out / MANIFEST))
+        lacking = [one for one in head.projects() if not (out / f"{one}.lsif").exists()]
+        if lacking:
+            raise Wrong(f"{lacking[0]} is named by the manifest, and isn't there")
+        return {one.uri for one in read_documents(str(out / MANIFEST), head)}
+
+    def judge_documents(self) -> None:
+        """Raises Wrong where a set that was made over one without a document lacks one: it keeps
+        the cuts of that, so its parts needn't be those of a call of which nothing was refused."""
+        found = self.documents()
+        self.restore()
+        self.must(self.word.words)
+        if found != self.documents():
+            raise Wrong(f"the same again: the set has {sorted(found)}")
 
     def judge_whole(self, state: State, stays: bool, when: str) -> None:
         """Raises Wrong where what there is isn't the new state."""
@@ -127,19 +156,22 @@ def whiches(errors: str, may_be_full: str) -> list[int]:
     return [KILL, *range(int(errors)), *([FULL] if may_be_full == "1" else [])]
 
 
-def may_stay(calls: list[str]) -> bool:
-    """Whether what was refused is to remove a file, or to look into a folder that goes."""
-    return any(re.search(r"^\d+ \d+ \d (unlink|rmdir|open .*/tmp/[\w-]+$)", call) for call in calls)
+def room_of(
+    name: str, folder: Path, program: Program, library: str
+) -> Union[Refusing, ServiceRoom]:
+    """Where the system calls of a word are refused."""
+    if name in SERVICE:
+        return ServiceRoom(folder, name, program, library)
+    (word,) = (word for word in WORDS if word.name == name)
+    return Refusing(folder, word, program, library)
 
 
-def try_word(word: Word, program: Program, library: str, each: int, turn: int) -> Counter[str]:
+def try_word(name: str, program: Program, library: str, each: int, turn: int) -> Counter[str]:
     """Refuses the system calls of a word in turn, and prints what came of it."""
     counts: Counter[str] = Counter()
     with tempfile.TemporaryDirectory(prefix="codenav-calls-") as folder:
-        room = Refusing(Path(folder), word, program, library)
-        room.restore()
-        with room.servers():
-            calls = room.must(word.words).calls
+        room = room_of(name, Path(folder), program, library)
+        calls = room.calls()
         every = [
             (number, which)
             for number, line in enumerate(calls, 1)
@@ -150,10 +182,10 @@ def try_word(word: Word, program: Program, library: str, each: int, turn: int) -
                 counts[room.tried(number, which)] += 1
             except Wrong as fault:
                 counts["faults"] += 1
-                print(f"{word.name}: {fault}", flush=True)
+                print(f"{name}: {fault}", flush=True)
     counts["tried"] = counts.total()
     print(
-        f"{word.name}: {len(calls)} calls, {counts['tried']} of {len(every)} tried: "
+        f"{name}: {len(calls)} calls, {counts['tried']} of {len(every)} tried: "
         f"{counts['refused']} refused, {counts['killed']} killed, {counts['faults']} faults",
         flush=True,
     )
@@ -178,13 +210,12 @@ def main() -> int:
             ["git", "rev-list", "--count", "HEAD"], cwd=TOP, capture_output=True, check=True
         )
         turn = int(counted.stdout)
-    wanted = given.only.split(",") if given.only else [word.name for word in WORDS]
+    wanted = given.only.split(",") if given.only else [*(word.name for word in WORDS), *SERVICE]
     each = TURNS if given.gate else given.each
     program = Program(os.path.abspath(given.program))
     with tempfile.TemporaryDirectory() as folder, ThreadPoolExecutor(given.jobs) as pool:
         library = built(folder)
-        chosen = [word for word in WORDS if word.name in wanted]
-        jobs = [pool.submit(try_word, word, program, library, each, turn) for word in chosen]
+        jobs = [pool.submit(try_word, name, program, library, each, turn) for name in wanted]
         total: Counter[str] = sum((job.result() for job in jobs), Counter())
     print(f"{total['tried']} tried, {total['faults']} faults, share {turn % each} of {each}")
     return int(total["faults"] > 0)

@@ -20,8 +20,22 @@ from collections.abc import Iterator
 from concurrent.futures import ThreadPoolExecutor
 from typing import Optional
 
-from edit_files import TOP, BadEdit, Edit, Place, Tried, applied, batches_of, edits_of, module_of
-from rooms import KeptEdits, Libraries, Room, libraries, proved_again
+from edit_files import (
+    TOP,
+    BadEdit,
+    Edit,
+    KeptEdits,
+    Libraries,
+    Place,
+    Room,
+    Tried,
+    applied,
+    batches_of,
+    edits_of,
+    libraries,
+    module_of,
+    proved_again,
+)
 
 NOT_PROVED = re.compile(r"not proved|no proof")
 # With this alone the check hasn't tried the function's own goals: a function that it calls isn't

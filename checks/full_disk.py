@@ -50,7 +50,6 @@ REMOVALS = 2
 FUNCTIONS, TAGS = 100, 1000
 STORE, FOREIGN = "codenav: store refused", "codenav: not a codenav database"
 SERVES = "serves: 200, 200"
-SERVES_FULL = "serves: 200, 503 S01"
 NOBODY = ("setpriv", "--reuid=65534", "--regid=65534", "--clear-groups")
 
 

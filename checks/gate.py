@@ -24,7 +24,7 @@ from pathlib import Path
 from typing import Optional
 
 PARTS = ("proof", "tests", "edits")
-# What these cost is the measure: hosts differ by two.
+# What the proofs of these cost is the measure: hosts differ by two.
 MEASURES = ("positions", "tags")
 # those of `rt ci`, and of checks/edits.py
 EDIT_FOLDERS = re.compile("/rt-edit-|/codenav-edits-")
@@ -206,10 +206,10 @@ def planned(jobs: Jobs, processors: int) -> float:
 
 def ratio(log: str) -> None:
     crates, whole, rest, minutes = costs_in(log)
-    yardstick = sum(sum(crates[name][:2]) for name in MEASURES)
+    yardstick = sum(crates[name][0] for name in MEASURES)
     last = [line for line in read(log).splitlines() if line.strip()][-1]
     print(
-        f"{last}: {whole / 60:.0f} processor minutes in {minutes}, {whole / yardstick:.1f} times the {yardstick / 60:.1f} of the proofs and tests of {' and '.join(MEASURES)}"
+        f"{last}: {whole / 60:.0f} processor minutes in {minutes}, {whole / yardstick:.1f} times the {yardstick / 60:.1f} of the proofs of {' and '.join(MEASURES)}"
     )
     alone = [(int(seconds), crate, part) for crate, part, seconds in ALONE.findall(read(log))]
     for seconds, crate, part in sorted(alone, reverse=True):
@@ -246,8 +246,8 @@ def main() -> int:
     for part, text in (
         (
             "ratio",
-            "the cost of the whole over that of the proofs and tests of the crates that measure it; what"
-            " ran alone; and the time by the clock on 2, 4 and 8 processors",
+            "the cost of the whole over that of the proofs of the crates that measure it; what ran alone;"
+            " and the time by the clock on 2, 4 and 8 processors",
         ),
         ("table", "the costs as a table of docs/inside/DEVELOPING.md, in minutes"),
     ):

@@ -8,7 +8,7 @@ import time
 from dataclasses import dataclass, field
 from typing import Callable, Optional
 
-from watched import TOP
+from watched import FIRST_LINES, TOP
 
 from tests.fronts import USER, authorization
 
@@ -21,6 +21,8 @@ SECONDS = 300
 PAUSE = 0.02
 LONG = 300_000
 GREAT = 400_000
+# replies to `/names`: the first letter of so many tags, of so many bytes each
+TAGS = {"a": (1, 1_000), "b": (1, 30_000), "c": (20, 50_000), "d": (200, 50_000)}
 Wanted = Callable[[int, bytes], bool]
 
 
@@ -39,16 +41,20 @@ class Place:
 
 @dataclass
 class Seen:
-    """How long the requests of each kind took, and what was wrong with an answer."""
+    """How long the requests of each kind took, what was wrong with an answer, and how many replies
+    were cut in the midst."""
 
     taken: dict[str, list[float]] = field(default_factory=lambda: collections.defaultdict(list))
     wrong: "collections.Counter[str]" = field(default_factory=collections.Counter)
+    cut: int = 0
 
     def count(self) -> int:
         return sum(map(len, self.taken.values()))
 
-    def longest(self) -> float:
-        return max(max(times) for times in self.taken.values())
+    def slowest(self) -> tuple[float, float]:
+        """How long one of a hundred took at least, and the longest."""
+        every = sorted(time for times in self.taken.values() for time in times)
+        return every[len(every) * 99 // 100], every[-1]
 
 
 class Client:
@@ -90,6 +96,9 @@ class Client:
         try:
             status, found = await asyncio.wait_for(self.reply(method, path, body), SECONDS)
             said = "" if is_right(status, found) else f"{status} {found[:80]!r}"
+        except asyncio.IncompleteReadError as fault:
+            said = str(fault)
+            self.seen.cut += bool(fault.partial)
         except (
             OSError,
             EOFError,
@@ -110,10 +119,18 @@ def equals(status: int, body: bytes) -> Wanted:
     return lambda found, text: (found, text) == (status, body)
 
 
-async def read(client: Client, stop: Callable[[], bool], path: str, kind: str, body: bytes) -> None:
+async def read(
+    client: Client,
+    stop: Callable[[], bool],
+    path: str,
+    kind: str,
+    body: bytes,
+    pause: float = 0,
+) -> None:
     """Asks for one answer over and over."""
     while not stop():
         await client.ask(kind, "GET", path, equals(200, body))
+        await asyncio.sleep(pause)
     client.drop()
 
 
@@ -138,6 +155,29 @@ async def write(client: Client, stop: Callable[[], bool], project: str, is_great
     client.drop()
 
 
+def tags_file() -> bytes:
+    """A tags file, in the order of its names."""
+    rows = [
+        f'{letter}{number:03}\tmain.rs\t/^{letter * size}$/;"\tf\n'
+        for letter, (count, size) in TAGS.items()
+        for number in range(count)
+    ]
+    return (FIRST_LINES + "".join(rows)).encode()
+
+
+async def names(client: Client, project: str) -> dict[str, bytes]:
+    """Puts tags, and answers what each question for some of them is answered, by its path."""
+    await client.reply("PUT", f"/projects/{project}/tags?key={project}", tags_file())
+    found: dict[str, bytes] = {}
+    for letter, (count, size) in TAGS.items():
+        path = f"/names?prefix={letter}&project={project}"
+        _, found[path] = await client.reply("GET", path, b"")
+        tags = json.loads(found[path])["tags"]
+        if [tag["address"].count(letter) for tag in tags] != [size] * count:
+            raise OSError(None, f"{len(tags)} tags", path)
+    return found
+
+
 async def prepared(place: Place, name: str) -> bytes:
     """Puts what the readers ask for, and answers what a definition of it is."""
     client = Client(place, Seen())
@@ -153,10 +193,19 @@ async def prepared(place: Place, name: str) -> bytes:
     return found
 
 
-async def load(place: Place, name: str, stop: Callable[[], bool], small: int = 20) -> Seen:
-    """Readers and writers until `stop` says so: of small dumps as many writers as a fifth of
-    `small` and the rest readers, and two of each of great dumps and long replies."""
+async def load(
+    place: Place,
+    name: str,
+    stop: Callable[[], bool],
+    small: int = 20,
+    begins: Callable[[], None] = lambda: None,
+) -> Seen:
+    """Puts what is asked for, calls `begins`, and has readers and writers go on until `stop` says
+    so: of small dumps as many writers as a fifth of `small` and the rest readers, two of each of
+    great dumps and long replies, and one of replies of each size from 1 KB to 10 MB."""
     expected, seen = await prepared(place, name), Seen()
+    found = await names(Client(place, Seen()), f"{name}-tags")
+    begins()
     contents = json.dumps({"contents": "x" * LONG}, separators=(",", ":")).encode()
     jobs = [
         read(
@@ -171,6 +220,10 @@ async def load(place: Place, name: str, stop: Callable[[], bool], small: int = 2
     jobs += [
         read(Client(place, seen), stop, f"/projects/{name}-long/hover?{AT}", "long hover", contents)
         for _ in range(2)
+    ]
+    jobs += [
+        read(Client(place, seen), stop, path, f"names, {len(body)} bytes", body, len(body) / 1e7)
+        for path, body in found.items()
     ]
     jobs += [
         write(Client(place, seen), stop, f"{name}-{number}", number < 2)

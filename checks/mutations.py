@@ -1,46 +1,35 @@
 #!/usr/bin/env python3
-"""Plants one wrong body at a time in the tools and runs the tests that call its file: what no test
+"""Plants one wrong body at a time in the tools and runs the tests that import its file: what no test
 notices shows what they leave out. Comparisons, conditions, sums, constants, and calls that are left
 out are changed, at random places; a file's chance is by its places.
 
-Which tests call which files is found by a run of each, under a profile; `--kept FILE` keeps that.
-Each change is made in a copy of tools/. A survivor is printed with its line before and after; the
-last line has how many of all were noticed. By hand, minutes for each ten.
+Each change is made in a copy of tools/, and the test modules next to its file by imports are run,
+up to the first that fails: so many at most. Each is a line, a survivor's with its text before and
+after; the last has how many of all were noticed. By hand, minutes for each ten.
 
-usage: checks/mutations.py [--seed N] [--count N] [--only WORD] [--jobs N] [--kept FILE] [PROGRAM]
+usage: checks/mutations.py [--seed N] [--count N] [--only WORD] [--jobs N] [--most N] [PROGRAM]
 """
 
 import argparse
 import ast
 import copy
-import json
 import os
 import random
 import shutil
+import signal
 import subprocess
 import sys
 import tempfile
 import time
+from collections import deque
 from concurrent.futures import ThreadPoolExecutor
+from contextlib import contextmanager, suppress
 from pathlib import Path
 from typing import Any, Iterator, NamedTuple, Optional
 
 TOP = Path(__file__).resolve().parent.parent
 PACKAGE = TOP / "tools" / "codenav"
 SECONDS = 600
-# what a run of a test module prints last: the files of the package that it called
-PROFILED = """
-import json, os, sys, threading, unittest
-own, seen = sys.argv[1], set()
-def watch(frame, event, arg):
-    seen.add(frame.f_code.co_filename)
-sys.setprofile(watch)
-threading.setprofile(watch)
-out = unittest.TextTestRunner(verbosity=0).run(unittest.defaultTestLoader.loadTestsFromName(sys.argv[2]))
-sys.setprofile(None)
-print("\\n" + json.dumps(sorted(os.path.relpath(one, own) for one in seen if one.startswith(own))))
-os._exit(not out.wasSuccessful())
-"""
 # not run: they look at all files, or at what is written of them
 NOT_RUN = ("tests.test_lint", "tests.test_layers", "tests.test_pages", "tests.test_package")
 SWAPS: dict[type[ast.AST], type[ast.AST]] = {
@@ -147,68 +136,97 @@ def wrong_bodies(random_: random.Random, count: int, only: str) -> list[Wrong]:
     return found
 
 
-def run(words: list[str], folder: str, program: Optional[str]) -> tuple[bool, bytes]:
-    """Whether Python's words end with 0 within the time, and what they print."""
-    try:
-        ended = subprocess.run(
-            [sys.executable, "-B", *words],
-            cwd=folder,
-            env={**os.environ, **({"CODENAV_PROGRAM": program} if program else {})},
-            stdin=subprocess.DEVNULL,
-            stdout=subprocess.PIPE,
-            stderr=subprocess.DEVNULL,
-            timeout=SECONDS,
-            check=False,
-        )
-    except subprocess.TimeoutExpired:
-        return False, b""
-    return ended.returncode == 0, ended.stdout
-
-
 def passes(name: str, tools: str, program: Optional[str]) -> bool:
-    """Whether a test module passes over tools."""
-    return run(["-m", "unittest", "-q", "-f", name], tools, program)[0]
+    """Whether a test module passes over tools, within the time."""
+    with subprocess.Popen(
+        [sys.executable, "-B", "-m", "unittest", "-q", "-f", name],
+        cwd=tools,
+        env={**os.environ, **({"CODENAV_PROGRAM": program} if program else {})},
+        stdin=subprocess.DEVNULL,
+        stdout=subprocess.DEVNULL,
+        stderr=subprocess.DEVNULL,
+        start_new_session=True,
+    ) as call:
+        try:
+            return call.wait(SECONDS) == 0
+        except subprocess.TimeoutExpired:
+            return False
+        finally:
+            with suppress(ProcessLookupError):
+                os.killpg(call.pid, signal.SIGKILL)  # with what it started
 
 
-def profiled(name: str, program: Optional[str]) -> tuple[list[str], float]:
-    """The files that a test module calls, and its seconds; no file where it doesn't pass."""
-    start, tools = time.monotonic(), str(TOP / "tools")
-    if not passes(name, tools, program):
-        print(f"{name} doesn't pass, and is left out", file=sys.stderr)
-        return [], 0.0
-    seconds = time.monotonic() - start
-    _, said = run(["-c", PROFILED, str(PACKAGE), name], tools, program)
-    return list(json.loads(said.splitlines()[-1])), seconds
+class Tests:
+    """The test modules, by how far they are from a file: imports lead from one to the other."""
+
+    def __init__(self) -> None:
+        self.seconds: dict[str, float] = {}
+        # what starts no server is the fastest, before it's known how long each takes
+        self.importers: dict[str, set[str]] = {}
+        tools = TOP / "tools"
+        for path in sorted([*PACKAGE.rglob("*.py"), *(tools / "tests").glob("*.py")]):
+            own = ".".join(path.relative_to(tools).with_suffix("").parts)
+            text = path.read_text("utf-8")
+            self.seconds[own] = float("OnServer" in text)
+            for one in imported(text, own):
+                self.importers.setdefault(one, set()).add(own)
+
+    def near(self, file: str, most: int) -> list[str]:
+        """The test modules that import a file of the package: first those called like it or its
+        folder, then the nearest, and of these the fastest."""
+        far = {".".join(["codenav", *Path(file).with_suffix("").parts]): 0}
+        waiting = deque(far)
+        while waiting:
+            last = waiting.popleft()
+            for one in self.importers.get(last, ()):
+                if one not in far:
+                    far[one] = far[last] + 1
+                    waiting.append(one)
+        found = [one for one in far if one.startswith("tests.test_") and one not in NOT_RUN]
+        words = [word.rstrip("s") for word in Path(file).with_suffix("").parts]
+
+        def order(one: str) -> tuple[bool, int, float]:
+            is_own = any(word in one for word in words)
+            return not is_own, far[one], self.seconds[one]
+
+        return sorted(found, key=order)[:most]
+
+    def notice(self, wrong: Wrong, most: int, program: Optional[str]) -> bool:
+        """Whether a test fails over a wrong body."""
+        with copied(wrong) as tools:
+            for name in self.near(wrong.file, most):
+                start = time.monotonic()
+                if not passes(name, tools, program):
+                    return True
+                self.seconds[name] = time.monotonic() - start
+        return False
 
 
-def tests_of(program: Optional[str], kept: Optional[str], jobs: int) -> dict[str, list[str]]:
-    """The test modules that call each file, the fastest first."""
-    if kept and os.path.exists(kept):
-        return dict(json.loads(Path(kept).read_text("utf-8")))
-    names = [f"tests.{path.stem}" for path in sorted((TOP / "tools" / "tests").glob("test_*.py"))]
-    names = [name for name in names if name not in NOT_RUN]
-    with ThreadPoolExecutor(jobs) as pool:
-        rows = list(zip(names, pool.map(lambda name: profiled(name, program), names)))
-    found = dict[str, list[str]]()
-    for name, (files, _) in sorted(rows, key=lambda row: row[1][1]):
-        for file in files:
-            found.setdefault(file, []).append(name)
-    if kept:
-        Path(kept).write_text(json.dumps(found), "utf-8")
-    return found
+def imported(text: str, own: str) -> Iterator[str]:
+    """The modules that one imports; calls of the command import all words."""
+    for node in ast.walk(ast.parse(text)):
+        if isinstance(node, ast.Import):
+            yield from (name.name for name in node.names)
+        elif isinstance(node, ast.ImportFrom) and node.module:
+            yield node.module
+            yield from (f"{node.module}.{name.name}" for name in node.names)
+    if own == "codenav.cli.main":
+        yield from (f"codenav.cli.{path.stem}" for path in PACKAGE.glob("cli/*.py"))
+    if "command(" in text and own.startswith("tests."):
+        yield "codenav.cli.main"
 
 
-def is_noticed(wrong: Wrong, tests: list[str], program: Optional[str]) -> bool:
-    """Whether a test fails over a wrong body."""
+@contextmanager
+def copied(wrong: Wrong) -> Iterator[str]:
+    """A copy of the tools with a wrong body, beside what else is at the top."""
     with tempfile.TemporaryDirectory() as room:
         for name in os.listdir(TOP):
             if name not in ("tools", ".git"):
                 os.symlink(TOP / name, os.path.join(room, name))
-        shutil.copytree(
-            TOP / "tools", f"{room}/tools", ignore=shutil.ignore_patterns("__pycache__")
-        )
+        leave = shutil.ignore_patterns("__pycache__")
+        shutil.copytree(TOP / "tools", f"{room}/tools", ignore=leave)
         Path(room, "tools", "codenav", wrong.file).write_text(wrong.text, "utf-8")
-        return not all(passes(name, f"{room}/tools", program) for name in tests)
+        yield f"{room}/tools"
 
 
 def main() -> int:
@@ -218,17 +236,17 @@ def main() -> int:
     parser.add_argument("--count", type=int, default=100)
     parser.add_argument("--only", default="", metavar="WORD", help="files that have it in a path")
     parser.add_argument("--jobs", type=int, default=2)
-    parser.add_argument("--kept", metavar="FILE", help="which tests call which files")
+    parser.add_argument("--most", type=int, default=5, help="so many test modules for each; 5")
     parser.add_argument("program", nargs="?", help="the built program; without it a stand-in")
     call = parser.parse_args()
     program = os.path.abspath(call.program) if call.program else None
-    tests = tests_of(program, call.kept, call.jobs)
+    tests = Tests()
     wrong = wrong_bodies(random.Random(call.seed), call.count, call.only)
 
     def tried(one: Wrong) -> bool:
-        noticed = is_noticed(one, tests.get(one.file, []), program)
-        if not noticed:
-            print(f"{one.file}:{one.line}: {one.before}  ->  {one.after}", flush=True)
+        noticed = tests.notice(one, call.most, program)
+        said = "noticed" if noticed else f"{one.before}  ->  {one.after}"
+        print(f"{one.file}:{one.line}: {said}", flush=True)
         return noticed
 
     with ThreadPoolExecutor(call.jobs) as pool:

@@ -115,14 +115,21 @@ ssize_t write(int to, const void *from, size_t size) {
     struct stat of;
     if (!real)
         real = dlsym(RTLD_NEXT, "write");
-    int is_file = to == 1 || (!fstat(to, &of) && S_ISREG(of.st_mode));
+    int is_file = !fstat(to, &of) && S_ISREG(of.st_mode);
     const char *name = to == 1 ? "1" : is_file ? "" : "pipe";
-    int is_no = to != 2 && (is_file ? REFUSED("write", name, WRITTEN) : REFUSED("write", name, PIPED));
+    /* the pipe by which a process hears of its signals has both its ends there, so it can't break */
+    if (to == 2 || (size == 1 && fcntl(to, F_GETFL) & O_NONBLOCK))
+        return real(to, from, size);
+    int is_no = is_file ? REFUSED("write", name, WRITTEN) : REFUSED("write", name, PIPED);
     return is_no ? -1 : real(to, from, size);
 }
 
 WRAPPED(ssize_t, pwrite64, (int to, const void *from, size_t size, off64_t at),
         (to, from, size, at), "", WRITTEN)
+WRAPPED(ssize_t, copy_file_range,
+        (int from, off64_t *at, int to, off64_t *to_at, size_t size, unsigned flags),
+        (from, at, to, to_at, size, flags), "", WRITTEN)
+WRAPPED(int, chown, (const char *path, uid_t user, gid_t group), (path, user, group), path, REMOVED)
 WRAPPED(int, ftruncate64, (int of, off64_t size), (of, size), "", WRITTEN)
 WRAPPED(int, truncate64, (const char *path, off64_t size), (path, size), path, WRITTEN)
 WRAPPED(int, fsync, (int of), (of), "", WRITTEN)

@@ -3,12 +3,13 @@
    a number that only grows. A part's name is its content (0..NC-1) and the version it was put on (its
    base). man[v,c] is the base of content c in version v, 0 where v hasn't it. No claims, no clocks.
    A publisher may stop for any time before any request and then still make it, or die.
-   Rule of removal, the same for all: LIST the projects first, then READ the manifest; what was
-   listed, isn't named by it and isn't based on it is garbage for ever, and may go at any later time.
+   Rule of removal, the same for all: LIST the projects first (once, before anything is put, and with
+   what was put since), then READ the manifest; what was listed, isn't named by it and isn't based on
+   it is garbage for ever, and may go at any later time.
    -DNP=  publishers (2, 3), the last one's revision is R[NP]; -DREMOVER: publisher 2 removes the set; -DNOASK: no asker; -DLASTREMOVES: the last one
    removes the set; -DREFENCE: once more after all puts too (no room);
    -DTWO: contents 1 and 3 are on a second server, which is listed by itself (a surface)
-   Mutations, each of which has to be found: -DBAD_ORDER (manifest read before the list), -DBAD_NAME
+   Mutations, each of which has to be found: -DBAD_ORDER (listed anew after the manifest is read), -DBAD_NAME
    (names by content alone), -DBAD_BASE (what isn't named goes, based on it or not), -DBAD_ASK (no look at
    the manifest after the answer), -DBAD_KEY (the manifest's key doesn't depend on the one before) */
 #ifndef NP
@@ -73,20 +74,12 @@ inline garbage(v) {
 #endif
 }
 inline list(on) {
-  t_b = 0; do :: t_b == NB -> break :: else -> l[t_b] = there[t_b] & (on); t_b++ od; t_b = 0 }
+  t_b = 0; do :: t_b == NB -> break :: else -> l[t_b] = l[t_b] | (there[t_b] & (on)); t_b++ od; t_b = 0 }
 inline clean() {
-#ifdef TWO
-  cleaned(5); cleaned(10)
-#else
-  cleaned(15)
-#endif
-}
-inline cleaned(on) {
 #ifdef BAD_ORDER
   atomic { maycrash(); w = cur };
-  atomic { maycrash(); list(on); garbage(w) };
+  atomic { maycrash(); list(15); garbage(w) };
 #else
-  atomic { maycrash(); list(on) };
   atomic { maycrash(); w = cur; garbage(w) };
 #endif
   do :: atomic { maycrash();
@@ -98,36 +91,44 @@ inline cleaned(on) {
   od }
 
 proctype Pub(byte me; byte rev) {
-  byte v, w, b, c, s; byte l[NB]; bool ok, mine, again;
+  byte v, w, b, c; byte l[NB]; bool ok, mine, again, fenced;
   atomic { maycrash(); v = cur };                /* read the manifest: the base */
+relist:
+#ifdef TWO
+  atomic { maycrash(); list(5) }; atomic { maycrash(); list(10) };
+#else
+  atomic { maycrash(); list(15) };
+#endif
   /* where something is based on it already, a publisher may fence that off: the same set again as a
      new version (where there is none: its key is used up) */
 refence:
   if :: true
-     :: top < NV - 3 || me > NP -> atomic { maycrash();
+     :: !fenced && (top < NV - 3 || me > NP) -> atomic { maycrash();
 #ifndef FENCE_LAST
           if :: me > NP -> goto nofence :: else fi;
 #endif
           if :: cur == v -> top++;
                 t_i = 0; do :: t_i == NC -> break :: else -> M(top,t_i) = M(v,t_i); t_i++ od; t_i = 0;
-                cur = top; v = top
+                cur = top; v = top; fenced = true
              :: else -> goto late fi };
         clean();
+        goto relist;
 nofence: skip
   fi;
-  atomic { maycrash(); s = there[v] };           /* list; put what the base hasn't */
+  /* put what the base hasn't */
   do :: c == NC -> break
      :: c < NC && (!BIT(REVOF(rev), c) || M(v,c) != 0) -> c++
      :: else ->
 #ifdef BAD_NAME
-        if :: BIT(there[1], c) -> c++ :: else -> atomic { maycrash(); there[1] = there[1] | (1 << c); c++ } fi
+        if :: BIT(l[1], c) -> c++
+           :: else -> atomic { maycrash(); there[1] = there[1] | (1 << c); l[1] = l[1] | (1 << c); c++ } fi
 #else
-        if :: BIT(s, c) -> c++                   /* listed: one of the same base and content put it */
-           :: else -> atomic { maycrash(); there[v] = there[v] | (1 << c); c++ } fi
+        if :: BIT(l[v], c) -> c++                /* listed: one of the same base and content put it */
+           :: else -> atomic { maycrash(); there[v] = there[v] | (1 << c); l[v] = l[v] | (1 << c); c++ } fi
 #endif
   od;
 #ifdef REFENCE
-  if :: true :: !again && me <= NP -> again = true; c = 0; goto refence fi;
+  if :: true :: !again && me <= NP -> again = true; fenced = false; c = 0; goto refence fi;
 #endif
   atomic { maycrash(); c = 0;                    /* the switch */
 #ifdef BAD_KEY
@@ -146,10 +147,10 @@ nofence: skip
                    :: BIT(REVOF(rev), t_i) && M(v,t_i) == 0 -> M(top,t_i) = v
 #endif
                 fi; t_i++ od;
-          t_i = 0; cur = top; v = 0; s = 0; mine = true; whole(cur, ok); assert(ok); ok = false
+          t_i = 0; cur = top; v = 0; mine = true; whole(cur, ok); assert(ok); ok = false
        :: else -> goto late fi };
 late:
-  v = 0; c = 0; s = 0;
+  v = 0; c = 0;
   clean();                                       /* a loser cleans too: its own is garbage by now */
   if :: me > NP ->                               /* the last one, alone: ended well, nothing is left */
         assert(mine);

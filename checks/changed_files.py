@@ -1,4 +1,15 @@
-"""Migrates files that Debian's `sqlite3` made tables of format 1 of, and compares the answers.
+"""Changes databases, and sees what the program does with them.
+
+flips: what becomes of one bit that's flipped in a database between two runs: by the digest that
+`supervise` keeps, and without it.
+
+A file of some 2 MB is made by uploads. A copy of it with one bit flipped at random is compared with
+its digest, then opened by the program, and asked 40 queries. Without the digest it's refused at the
+start, or answers S01 to some, or all as before, or some of them wrongly. Status 1 where the digest
+didn't find a flip.
+
+migration: migrates files that Debian's `sqlite3` made tables of format 1 of, and compares the
+answers.
 
 The program makes a file of format 2. Each case makes tables of format 1 of a copy, as a file made
 by an older version has them, by dropping what format 2 adds; some or all of format 2's indexes
@@ -8,13 +19,68 @@ before, and the indexes have to be those of format 2. Some seconds.
 
 import argparse
 import json
+import os
 import pathlib
+import random
 import shutil
 import subprocess
 import sys
 import tempfile
+from collections import Counter
 
-from watched import TOP, Wrong, request, tool
+from watched import TOP, Wrong, at, dump, request, tags, tool
+
+from codenav.service import digests
+
+PROJECTS, FUNCTIONS, TAGS, QUERIES = 4, 600, 400, 40
+KINDS = "definition", "references", "hover"
+
+
+def replies(program: str, database: str, stream: str) -> list[bytes]:
+    """The replies to a stream over a database, with the line that a refusal ends with in front."""
+    done = subprocess.run([program, "replay", database, stream], capture_output=True, check=False)
+    return [done.stderr, *done.stdout.split(b"HTTP/1.1 ")[1:]]
+
+
+def made(program: str, folder: str) -> tuple[str, str]:
+    """A database with some projects, and the stream of the queries."""
+    database, first, asked = f"{folder}/index.db", f"{folder}/first", f"{folder}/asked"
+    with open(first, "wb") as out:
+        for number in range(PROJECTS):
+            project, joined = f"p{number}", f"p{(number + 1) % PROJECTS}"
+            body = dump(project, 1, FUNCTIONS, joined=joined)
+            out.write(request("PUT", f"/projects/{project}/lsif?key=l", body))
+            out.write(request("PUT", f"/projects/{project}/tags?key=t", tags(project, 1, TAGS)))
+    if not all(text.startswith(b"200") for text in replies(program, database, first)[1:]):
+        raise OSError(None, "an upload is refused", database)
+    chance = random.Random(0)
+    with open(asked, "wb") as out:
+        for number in range(QUERIES - 2):
+            line = 4 * chance.randrange(FUNCTIONS) + chance.randrange(3)
+            path = at(f"p{number % PROJECTS}", KINDS[number % len(KINDS)], line)
+            out.write(request("GET", path))
+        out.write(request("GET", "/projects") + request("GET", "/names?prefix=name_0001"))
+    return database, asked
+
+
+def flip(path: str, place: int) -> None:
+    """Flips a bit of a file."""
+    with open(path, "r+b") as file:
+        file.seek(place // 8)
+        byte = file.read(1)[0]
+        file.seek(place // 8)
+        file.write(bytes([byte ^ 1 << place % 8]))
+
+
+def outcome(found: list[bytes], right: list[bytes]) -> str:
+    """What a person would see of a flip without the digest."""
+    if found[0]:
+        return "refused at the start"
+    wrong = [text for text, own in zip(found, right) if text != own]
+    if not wrong and len(found) == len(right):
+        return "no difference"
+    return "S01 for a query" if all(b'"S01"' in text for text in wrong) else "a wrong answer"
+
 
 OLD = "DROP TABLE more; DROP TABLE part_profile; UPDATE format SET version = 1;"
 START = "CREATE INDEX range_by_start ON range_row (slot, uri, first, last DESC);"
@@ -131,23 +197,58 @@ def make(program: str, made: pathlib.Path) -> bytes:
     return b"".join(request("GET", path) for path in paths)
 
 
-def main() -> int:
-    parser = argparse.ArgumentParser(
-        description=__doc__, formatter_class=argparse.RawDescriptionHelpFormatter
-    )
-    parser.add_argument("program", help="the built program, as crates/codenav/out/codenav")
-    program = str(pathlib.Path(parser.parse_args().program).resolve())
+def print_flips(given: argparse.Namespace) -> int:
+    """Answers 0 where the digest found each flip."""
+    program, seen, chance = given.program, Counter[str](), random.Random(given.seed)
+    with tempfile.TemporaryDirectory() as folder:
+        database, asked = made(program, folder)
+        right = replies(program, database, asked)
+        digests.keep(database)
+        size, trial = os.path.getsize(database), f"{folder}/trial.db"
+        print(f"{size} bytes, {len(right) - 1} queries", flush=True)
+        for _ in range(given.count):
+            place = chance.randrange(8 * size)
+            flip(database, place)
+            seen["found by the digest"] += digests.difference(database) is not None
+            shutil.copyfile(database, trial)
+            flip(database, place)
+            seen[outcome(replies(program, trial, asked), right)] += 1
+            os.unlink(trial)
+            if os.path.exists(f"{trial}-wal"):
+                os.unlink(f"{trial}-wal")
+    for name, count in seen.most_common():
+        print(f"{name}: {count} of {given.count}")
+    return int(seen["found by the digest"] != given.count)
+
+
+def print_migrations(program: str) -> int:
+    """Answers 0 where each file became what it should."""
     with tempfile.TemporaryDirectory() as room:
-        made = pathlib.Path(room, "made.db")
-        queries = make(program, made)
+        first = pathlib.Path(room, "made.db")
+        queries = make(program, first)
         wrong = []
         for name, text in CASES.items():
             try:
-                try_case(program, made, queries, name, text)
+                try_case(program, first, queries, name, text)
             except Wrong as error:
                 wrong.append(f"{name}: {error}")
     print("\n".join(wrong) or f"{len(CASES)} files migrated")
     return 1 if wrong else 0
+
+
+def main() -> int:
+    options = argparse.ArgumentParser(
+        description=__doc__, formatter_class=argparse.RawDescriptionHelpFormatter
+    )
+    parts = options.add_subparsers(required=True, dest="part")
+    flips, migration = map(parts.add_parser, ("flips", "migration"))
+    flips.add_argument("--count", type=int, default=1000)
+    flips.add_argument("--seed", type=int, default=1)
+    for own in flips, migration:
+        own.add_argument("program", help="the built program, as crates/codenav/out/codenav")
+    given = options.parse_args()
+    given.program = os.path.abspath(given.program)
+    return print_flips(given) if given.part == "flips" else print_migrations(given.program)
 
 
 if __name__ == "__main__":
