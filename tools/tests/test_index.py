@@ -1,6 +1,7 @@
 """Tests of `index`: over a server that stands in for a language server and fails as it's told, and
 over clangd where that is installed."""
 
+import errno
 import io
 import json
 import os
@@ -34,7 +35,8 @@ FILES = {
 }
 PACKAGE = ["--package", "pkg-config api 1.2"]
 POINTS = ("semanticTokens/full", "documentSymbol", "definition", "hover", "implementation")
-SECONDS = 20
+SILENT = ("hang", "lost")
+SECONDS = 60
 
 
 def wait_for(is_so: Callable[[], bool]) -> None:
@@ -100,7 +102,7 @@ class OnFolder(OnServer):
 
     def stood_in(self, *words: str, **variables: str) -> tuple[int, str]:
         """A call over the server that stands in."""
-        return self.index("--server", SERVER, "--patience", "2", *PACKAGE, *words, **variables)
+        return self.index("--server", SERVER, "--patience", "30", *PACKAGE, *words, **variables)
 
     def body(self) -> bytes:
         """What was written."""
@@ -119,9 +121,11 @@ class OnFolder(OnServer):
             answer = put(self.url, project, "lsif", body, fresh_key("lsif"), "2", False)
         self.assertEqual(answer.status, 200, answer)
 
-    def assert_answer(self, rows: dict[tuple[str, str, int, int], Any]) -> None:
+    def assert_answer(
+        self, rows: dict[tuple[str, str, int, int], Any], project: str = "app"
+    ) -> None:
         """Has a server answer from what was uploaded as rows say."""
-        asked = asked_at(self.url, "app")
+        asked = asked_at(self.url, project)
         for (kind, name, line, character), wanted in rows.items():
             uri = uri_of(os.path.join(self.folder, name), [])
             parameters = {"uri": uri, "line": line, "character": character}
@@ -173,17 +177,12 @@ class Failing(OnFolder):
     def test_once(self) -> None:
         """A server that fails once leaves nothing out, unless it answers by an error or by no form."""
         whole = self.whole()
-        rows = [
-            *((kind, method) for kind in ("end", "late", "error", "no-json") for method in POINTS),
-            *((kind, "definition") for kind in ("hang", "lost", "formless")),
-            ("hang", "semanticTokens/full"),
-            ("formless", "semanticTokens/full"),
-            ("formless", "hover"),
-        ]
-        for kind, method in rows:
+        kinds = ("end", "hang", "lost", "late", "error", "no-json", "formless")
+        for kind, method in [(kind, method) for kind in kinds for method in POINTS]:
             with self.subTest(kind=kind, method=method):
                 mark = os.path.join(self.home, f"{kind} {method}".replace("/", " "))
-                status, said = self.stood_in(FAULT=f"{kind} {method} * once", FAILED=mark)
+                words = ("--patience", "4") if kind in SILENT else ()
+                status, said = self.stood_in(*words, FAULT=f"{kind} {method} * once", FAILED=mark)
                 self.assertTrue(os.path.exists(mark))
                 if kind in ("error", "formless"):
                     self.assertEqual((status, said.count("left out")), (1, 1), said)
@@ -195,7 +194,8 @@ class Failing(OnFolder):
         """What a server fails at each time is left out alone, and said."""
         for kind in ("end", "hang", "lost", "error", "no-json", "formless"):
             with self.subTest(kind=kind):
-                status, said = self.stood_in(FAULT=f"{kind} definition missing always")
+                words = ("--patience", "4") if kind in SILENT else ()
+                status, said = self.stood_in(*words, FAULT=f"{kind} definition missing always")
                 self.assertEqual((status, said.count("left out: definitions")), (1, 1), said)
                 self.assertIn("one.c:2:", said)
                 self.assert_answers({("definition", "one.c", 1, 9): ["two.c:0"]})
@@ -207,6 +207,18 @@ class Failing(OnFolder):
         self.assertEqual((status, self.body()), (0, whole), said)
         self.assertIn("to mind: the server was started again", said)
 
+    def test_jobs(self) -> None:
+        """Several processes come to the same dump, also where they end or fail at a word."""
+        whole = self.whole()
+        rows = {"": 0, "end * * 9": 0, "end definition * once": 0, "late hover * once": 0}
+        for fault, wanted in rows.items():
+            with self.subTest(fault=fault):
+                mark = os.path.join(self.home, fault.replace("*", ""))
+                status, said = self.stood_in("--jobs", "3", FAULT=fault, FAILED=mark)
+                self.assertEqual((status, self.body()), (wanted, whole), said)
+        status, said = self.stood_in("--jobs", "3", FAULT="end definition missing always")
+        self.assertEqual((status, said.count("left out: definitions")), (1, 1), said)
+
     def test_in_vain(self) -> None:
         """A server that never comes to an answer isn't started for ever, nor is one over the time."""
         rows: dict[str, list[str]] = {
@@ -216,8 +228,40 @@ class Failing(OnFolder):
         for text, words in rows.items():
             with self.subTest(text=text):
                 status, said = self.stood_in(*words, FAULT="end * * 2")
-                self.assertEqual(status, 1, said)
+                self.assertEqual(status, 2, said)
                 self.assertIn(text, said)
+
+    def test_nothing(self) -> None:
+        """Where nothing is answered nothing is written."""
+        whole = self.whole()
+        for fault in ("definition", "semanticTokens/full"):
+            with self.subTest(fault=fault):
+                status, said = self.stood_in(FAULT=f"error {fault} * always")
+                self.assertEqual((status, self.body()), (2, whole), said)
+                self.assertIn("words none leads anywhere; left out: ", said)
+
+    def test_no_room(self) -> None:
+        """Without room for its files a server isn't started, nor again: some hang then each time."""
+        whole, full = self.whole(), OSError(errno.ENOSPC, "No space left on device")
+        for effects in ([full], [None, full]):
+            with (
+                self.subTest(effects=effects),
+                mock.patch("os.posix_fallocate", side_effect=effects),
+            ):
+                status, said = self.stood_in(FAULT="end * * 2")
+                self.assertEqual((status, self.body(), said.count("\n")), (2, whole, 0), said)
+                self.assertEqual(said, f"{tempfile.gettempdir()}: No space left on device")
+
+    def test_nowhere_to_write(self) -> None:
+        """What can't be written is found before anything is asked."""
+        mark, nowhere = os.path.join(self.home, "failed"), os.path.join(self.home, "none", "it")
+        rows: list[tuple[list[str], str]] = [([], nowhere), (["--state", nowhere], self.out)]
+        for words, out in rows:
+            with self.subTest(words=words), mock.patch.object(self, "out", out):
+                status, said = self.stood_in(*words, FAULT="error * * 1", FAILED=mark, CHILD=mark)
+                self.assertEqual((status, said), (2, f"{nowhere}: No such file or directory"))
+                self.assertFalse(os.path.exists(mark))
+        self.assertEqual(os.listdir(self.home), ["code"])
 
     def test_memory(self) -> None:
         words = ("--megabytes", "150", "--patience", "20")
@@ -233,6 +277,8 @@ class Failing(OnFolder):
             "--server=sh -c 'echo no such flag >&2'": "no such flag",
             "--server=cat": "it doesn't answer as a language server does",
             "--server=/no/server": "which isn't installed",
+            '--server="': "--server '\"': No closing quotation",
+            "--server= ": "--server ' ': no program is named",
             "--megabytes=0": "--megabytes 0: it's more than 0",
             "--seconds=nan": "--seconds nan: it's more than 0",
             "--package=api": "--package api: it's 'MANAGER NAME VERSION'",
@@ -245,22 +291,29 @@ class Failing(OnFolder):
 
     def test_signal(self) -> None:
         """What it started ends with it, and nothing of its files stays."""
+        self.end_by_signal(1)
+
+    def test_signal_to_several(self) -> None:
+        self.end_by_signal(3, "--jobs", "3")
+
+    def end_by_signal(self, count: int, *more: str) -> None:
+        """Ends a call while so many processes are asked."""
         child, work = os.path.join(self.home, "child"), os.path.join(self.home, "work")
         os.mkdir(work)
         variables = {"CHILD": child, "TMPDIR": work, "FAULT": "hang definition * always"}
         variables["FAILED"] = mark = os.path.join(self.home, "failed")
-        words = [*command("index"), "--server", SERVER, self.folder, self.out]
+        words = [*command("index"), "--server", SERVER, *more, self.folder, self.out]
         with subprocess.Popen(
             words, env={**os.environ, **variables}, stderr=subprocess.PIPE, text=True
         ) as run:
             wait_for(lambda: os.path.exists(mark))
             run.terminate()
-            said = run.communicate(timeout=20)[1]
+            said = run.communicate(timeout=SECONDS)[1]
         self.assertEqual(run.returncode, 128 + signal.SIGTERM)
         self.assertTrue(said.endswith("codenav index: ended by SIGTERM\n"), said)
         with open(child, encoding="ascii") as file:
             numbers = file.read().split()
-        self.assertEqual(len(numbers), 2)
+        self.assertEqual(len(numbers), 2 * count)
         wait_for(lambda: not any(map(is_running, numbers)))
         self.assertEqual((os.listdir(work), os.path.exists(self.out)), ([], False))
 
@@ -289,6 +342,34 @@ class TwoLanguages(OnFolder):
         )
 
 
+class OneOfTwo(OnFolder):
+    files = {**FILES, "three.go": "int three() {\n return three();\n}\n"}
+
+    def test_left_out(self) -> None:
+        """A language of which nothing is installed, or whose server doesn't start, is left out, and the
+        other is there."""
+        path = os.path.join(self.home, "bin")
+        os.mkdir(path)
+        for name in ("git", "sh"):
+            os.symlink(shutil.which(name) or "/", os.path.join(path, name))
+        stood_in_as(os.path.join(path, "clangd"))
+        rows = {
+            "": "Go would be asked of gopls, which isn't installed (Debian's gopls and golang-go)",
+            "exit 1": "Go: gopls: the server ended",
+        }
+        for text, wanted in rows.items():
+            if text:
+                gopls = os.path.join(path, "gopls")
+                with open(gopls, "w", encoding="utf-8") as file:
+                    file.write(f"#!/bin/sh\n{text}\n")
+                os.chmod(gopls, 0o755)
+            with self.subTest(text=text):
+                status, said = self.index(PATH=path)
+                self.assertEqual(status, 1, said)
+                self.assertIn(f"left out: {wanted}", said)
+                self.assert_answers({("definition", "one.c", 1, 9): ["two.c:0"]})
+
+
 class InGit(OnFolder):
     files = {**FILES, ".gitignore": "made.c\n", "made.c": "int made() {}\n"}
 
@@ -314,6 +395,8 @@ class NoLanguage(OnFolder):
 class Published(OnFolder):
     """`publish` where no indexer is installed: a language server is asked."""
 
+    words: tuple[str, ...] = ()
+
     def publish(self, *programs: str) -> tuple[int, str]:
         """The status of a call with some programs on the path, and what it says."""
         path = os.path.join(self.home, "bin")
@@ -329,8 +412,18 @@ class Published(OnFolder):
             redirect_stderr(io.StringIO()) as said,
             redirect_stdout(said),
         ):
-            status = PUBLISH.main([self.url, "app", self.folder])
+            status = PUBLISH.main([*self.words, self.url, "app", self.folder])
         return status, said.getvalue()
+
+    def test_kept(self) -> None:
+        """The files that are kept are no server's own."""
+        kept = os.path.join(self.home, "kept")
+        self.words = ("--keep", kept)
+        status, said = self.publish("clangd")
+        self.assertEqual(status, 0, said)
+        self.assertIn("asked.lsif", os.listdir(kept))
+        paths = [os.path.join(kept, name) for name in os.listdir(kept)]
+        self.assertEqual([path for path in paths if os.path.isdir(path)], [])
 
     def test_asked(self) -> None:
         """With the file that an indexer is chosen by, which is said, and without."""
@@ -345,8 +438,24 @@ class Published(OnFolder):
             file.write("[]")
         status, said = self.publish("clangd")
         self.assertEqual(status, 0, said)
-        text = "scip-clang would index this, and isn't on the path: a language server is asked"
+        text = "scip-clang would index this, and isn't on the path: asked is clangd "
         self.assertIn(text, said)
+
+    def test_nothing(self) -> None:
+        """Where a server knows nothing no empty index takes the place of the one before."""
+        self.assertEqual(self.publish("clangd")[0], 0)
+        wanted = {("definition", "one.c", 1, 9): ["two.c:0"]}
+        self.assert_answer(wanted)
+        with mock.patch.dict(os.environ, {"FAULT": "error definition * always"}):
+            for name, status in {"": 0, "compile_commands.json": 2}.items():
+                if name:
+                    with open(os.path.join(self.folder, name), "w", encoding="utf-8") as file:
+                        file.write("[]")
+                found, said = self.publish("clangd")
+                with self.subTest(name=name):
+                    self.assertEqual(found, status, said)
+                    self.assertIn("of 12 words none leads anywhere; left out: definitions:", said)
+                    self.assert_answer(wanted)
 
     def test_none(self) -> None:
         """Without a language server too there are tags, or the fault is the indexer's."""
@@ -363,14 +472,12 @@ class Published(OnFolder):
         )
 
     def test_another_language(self) -> None:
-        """Files of C don't take the place of an index of Python."""
-        with open(os.path.join(self.folder, "setup.py"), "w", encoding="utf-8") as file:
+        """Files of C don't take the place of an index of Ruby."""
+        with open(os.path.join(self.folder, "Gemfile"), "w", encoding="utf-8") as file:
             file.write("")
         status, said = self.publish("clangd")
         self.assertEqual(status, 2)
-        text = (
-            "scip-python would index this, and isn't on the path; --no-index uploads tags alone\n"
-        )
+        text = "scip-ruby would index this, and isn't on the path; --no-index uploads tags alone\n"
         self.assertTrue(said.endswith(text), said)
 
 
@@ -415,6 +522,28 @@ int first(struct box *box) {
         self.assertEqual(names, {f"api.h:{name}" for name in wanted})
 
 
+@unittest.skipUnless(shutil.which("ccls"), "ccls isn't installed")
+class Ccls(OnFolder):
+    """Another server of the same language, which says itself where the words are that it knows."""
+
+    files = Clangd.files
+
+    def test_definitions(self) -> None:
+        """And nothing is left in the folder."""
+        status, said = self.index("--server", "ccls")
+        self.assertEqual(status, 0, said)
+        self.assert_answers(
+            {
+                ("definition", "src/one.c", 6, 9): ["two.c:1"],
+                ("definition", "src/one.c", 6, 21): ["api.h:0"],
+                ("definition", "src/one.c", 6, 34): ["api.h:2"],
+                ("definition", "src/one.c", 3, 12): [],
+                ("definition", "src/one.c", 1, 17): [],
+            }
+        )
+        self.assertNotIn(".ccls-cache", os.listdir(self.folder))
+
+
 @unittest.skipUnless(shutil.which("clangd"), "clangd isn't installed")
 class CPlusPlus(OnFolder):
     files = {
@@ -455,6 +584,70 @@ int main() {
             }
         )
 
+    def test_overloads(self) -> None:
+        """They're known to others by their types, whatever their order, and other siblings by it."""
+        header = os.path.join(self.folder, "shape.hpp")
+        with open(header, encoding="utf-8") as file:
+            text = file.read() + "struct Both { struct { int a; } x; struct { int a; } y; };\n"
+        names = []
+        lines = text.split("\n")
+        for order in (lines, [*lines[:3], lines[4], lines[3], *lines[5:]]):
+            with open(header, "w", encoding="utf-8") as file:
+                file.write("\n".join(order))
+            self.assertEqual(self.index("--package", "pkg-config shape 1.0")[0], 0)
+            names.append({one["identifier"] for one in vertices(self.out, "moniker")})
+        self.assertEqual(names[0], names[1])
+        wanted = {"twice int (int)", "twice double (double)", "same", "Box.area", "Both.x"}
+        wanted |= {"Both.(anonymous struct).a", "Both.(anonymous struct)#2.a"}
+        self.assertLessEqual({f"shape.hpp:{name}" for name in wanted}, names[0])
+
+
+@unittest.skipUnless(shutil.which("clangd"), "clangd isn't installed")
+class Mixed(OnFolder):
+    """C in a folder with C++ leads as it does alone, and C++ as such, also by one header for both."""
+
+    files = {
+        "c/a.c": '#include "a.h"\n#include <both.h>\nint add(int a,int b){return a+b;}\n'
+        "int use(void){return add(1,2)+both(1);}\n",
+        "c/a.h": '#pragma once\n#include "deep.h"\nint add(int a,int b);\n',
+        "c/deep.h": "int use(void);\nstruct pair { int class; };\n#ifdef KNOWN\nint known(void);\n#endif\n",
+        "include/both.h": '#ifdef __cplusplus\nextern "C" {\n#endif\nint both(int a);\n'
+        "#ifdef __cplusplus\n}\nnamespace n { int alone(int a); }\n#endif\n",
+        "b/a.h": "struct box { int side() const; };\nnamespace n { int twice(int a); }\n",
+        "b/b.cpp": '#include "a.h"\n#include <both.h>\nint both(int a){return a;}\n'
+        "int n::twice(int a){return a+a;}\nint n::alone(int a){return a;}\n"
+        "int box::side() const{return n::twice(both(1));}\n",
+    }
+
+    led = {
+        ("a.c:2", "a.h:2"): [("c/a.c", 2, 4), ("c/a.c", 3, 21), ("c/a.h", 2, 4)],
+        ("a.c:3", "deep.h:0"): [("c/a.c", 3, 4), ("c/deep.h", 0, 4)],
+        ("b.cpp:2", "both.h:3"): [
+            *(("c/a.c", 3, 30), ("b/b.cpp", 2, 4)),
+            *(("b/b.cpp", 5, 39), ("include/both.h", 3, 4)),
+        ],
+        ("b.cpp:3", "a.h:1"): [("b/b.cpp", 3, 7), ("b/b.cpp", 5, 32), ("b/a.h", 1, 18)],
+        ("b.cpp:4", "both.h:6"): [("b/b.cpp", 4, 7), ("include/both.h", 6, 18)],
+        ("b.cpp:5", "a.h:0"): [("b/b.cpp", 5, 9), ("b/a.h", 0, 17)],
+    }
+
+    def test_answers(self) -> None:
+        status, said = self.index()
+        self.assertEqual(status, 0, said)
+        rows: dict[tuple[str, str, int, int], Any] = {}
+        for (defined, declared), places in self.led.items():
+            for place in places:
+                rows["definition", place[0], place[1], place[2]] = [defined]
+                rows["declaration", place[0], place[1], place[2]] = [declared]
+        self.assert_answers(rows)
+
+    def test_compiled(self) -> None:
+        """What says how files are compiled says so of headers too."""
+        with open(os.path.join(self.folder, "compile_flags.txt"), "w", encoding="utf-8") as file:
+            file.write("-Iinclude\n-DKNOWN\n")
+        self.index()
+        self.assert_answers({("definition", "c/deep.h", 3, 4): ["deep.h:3"]})
+
 
 @unittest.skipUnless(shutil.which("clangd"), "clangd isn't installed")
 class OddNames(OnFolder):
@@ -466,7 +659,7 @@ class OddNames(OnFolder):
 
     def test_names_and_columns(self) -> None:
         """Addresses that are written in several ways, and characters of two code units."""
-        status, said = self.index("--patience", "9")
+        status, said = self.index("--patience", "30")
         self.assertEqual(status, 0, said)
         self.assert_answers(
             {
@@ -478,6 +671,75 @@ class OddNames(OnFolder):
             }
         )
         self.assertEqual(sorted(os.listdir(self.folder)), ["a b", "latin.c"])
+
+
+@unittest.skipUnless(shutil.which("clangd"), "clangd isn't installed")
+class Marked(OnFolder):
+    """Files that begin with a byte order mark, which no place counts."""
+
+    files = {
+        "w.h": "\ufeffint w(void); int other(void); extern int x;\n",
+        "w.c": '\ufeff#include "w.h"\nint w(void) { return other() + x; }\nint x;\n',
+        "use.c": '#include "w.h"\nint use(void) { return w() + x + other(); }\n',
+    }
+
+    def test_first_line(self) -> None:
+        status, said = self.index()
+        self.assertEqual(status, 0, said)
+        self.assert_answers(
+            {
+                ("definition", "w.h", 0, 4): ["w.c:1"],
+                ("declaration", "w.h", 0, 4): ["w.h:0"],
+                ("declaration", "use.c", 1, 23): ["w.h:0"],
+                ("references", "w.c", 1, 4): ["use.c:1", "w.c:1", "w.h:0"],
+                ("references", "w.h", 0, 17): ["use.c:1", "w.c:1", "w.h:0"],
+                ("references", "w.c", 2, 4): ["use.c:1", "w.c:1", "w.c:2", "w.h:0"],
+            }
+        )
+        ranges = [one["start"]["character"] for one in vertices(self.out, "range")]
+        self.assertNotIn(5, ranges)
+
+
+class OddBytes(OnFolder):
+    """Names of files that aren't UTF-8, or that have a line feed."""
+
+    files = {"good.py": "def two():\n    return 1\n"}
+    names = ("bad\udcff", "of\ntwo", "of\udcff\ntwo")
+
+    def write(self, name: str, text: str) -> None:
+        """Writes a file of the folder."""
+        with open(os.path.join(self.folder, name), "w", encoding="utf-8") as file:
+            file.write(text)
+
+    def test_python(self) -> None:
+        """They're indexed, but no other project leads there by a name that isn't UTF-8."""
+        for name in self.names:
+            self.write(f"{name}.py", "def one():\n    return one()\n")
+        state = os.path.join(self.home, "state")
+        rows = "", "--package=pip app 1", f"--state={state}", f"--state={state}"
+        for word in rows:
+            with self.subTest(word=word):
+                status, said = self.index(*filter(None, [word]))
+                is_left = word.startswith("--package")
+                self.assertEqual((status, "isn't UTF-8" in said), (is_left, is_left), said)
+                self.upload("app")
+                asked = asked_at(self.url, "app")
+                for name in self.names:
+                    uri = uri_of(os.path.join(self.folder, f"{name}.py"), [])
+                    found = asked.query(
+                        "definition", {"uri": uri, "line": 1, "character": 11}, "places"
+                    )
+                    self.assertEqual([one["uri"] for one in found], [uri])
+
+    @unittest.skipUnless(shutil.which("clangd"), "clangd isn't installed")
+    def test_c(self) -> None:
+        for name in self.names:
+            self.write(f"{name}.c", "int two(void);\nint one(void) { return two(); }\n")
+        status, said = self.index()
+        self.assertEqual(status, 0, said)
+        found = {one["uri"] for one in vertices(self.out, "document")}
+        names = [*(f"{name}.c" for name in self.names), "good.py"]
+        self.assertEqual(found, {uri_of(os.path.join(self.folder, one), []) for one in names})
 
 
 @unittest.skipUnless(shutil.which("clangd"), "clangd isn't installed")

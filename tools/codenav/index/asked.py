@@ -6,12 +6,14 @@ in the body of a macro, in a text. So nothing is asked there.
 """
 
 from collections import Counter
-from dataclasses import dataclass, field
-from typing import Any, Callable, Iterable, Iterator, NamedTuple
+from typing import Any, Callable, Iterable, Iterator
 
 from codenav.addresses import spelled
 from codenav.faults import BadCall
-from codenav.index.conversation import Conversation, Question
+from codenav.index.answers import Answers, Name, Place
+from codenav.index.documents import Lines
+from codenav.index.questions import Question
+from codenav.index.team import Team
 from codenav.kinds import hover_text
 from codenav.outcome import Notes
 from codenav.progress import Shows
@@ -19,63 +21,15 @@ from codenav.progress import Shows
 NO_NAMES = {"comment", "keyword", "string", "number", "regexp", "operator", "modifier"}
 IMPLEMENTED = {5, 6, 10, 11, 12, 23}
 """Kinds of symbols that may have implementations: class, method, enum, interface, function, struct."""
+CALLED = {6, 9, 12}
+"""Kinds of symbols that are called: method, constructor, function."""
 NO_ANSWER = ("no object found", "no identifier found", "not a type name", "no type info")
 """How errors begin or go on that mean that there's nothing at a place: they have no code of their
 own."""
 
 
-class Place(NamedTuple):
-    """A place in a document, with lines and UTF-16 code units from 0."""
-
-    uri: str
-    line: int
-    start: int
-    end_line: int
-    end: int
-
-    @property
-    def at(self) -> tuple[str, int, int]:
-        """Where it begins."""
-        return self.uri, self.line, self.start
-
-    def __str__(self) -> str:
-        return f"{self.uri}:{self.line + 1}:{self.start + 1}"
-
-
 FORMLESS = (KeyError, TypeError, ValueError, IndexError, AttributeError)
 """What reading an answer raises that hasn't the protocol's form."""
-
-
-class Name(NamedTuple):
-    """A name that a document declares: the names around it, its kind by the protocol's number, and
-    how many lines and, on the last one, UTF-16 code units its declaration has."""
-
-    around: tuple[str, ...]
-    name: str
-    kind: int
-    size: tuple[int, int]
-
-
-@dataclass(slots=True)
-class Answers:
-    """What was answered: the words and where each leads, as the server says it, and the names, by
-    their places; the hovers at words, and the implementations of what they lead to."""
-
-    words: dict[tuple[str, int, int], Place] = field(default_factory=dict)
-    leads: dict[Place, list[Place]] = field(default_factory=dict)
-    names: dict[tuple[str, int, int], Name] = field(default_factory=dict)
-    hovers: dict[Place, Any] = field(default_factory=dict)
-    implementations: dict[Place, list[Place]] = field(default_factory=dict)
-    empty: int = 0
-
-    def add(self, other: "Answers") -> None:
-        """Adds what another server answered, of other documents."""
-        self.words.update(other.words)
-        self.leads.update(other.leads)
-        self.names.update(other.names)
-        self.hovers.update(other.hovers)
-        self.implementations.update(other.implementations)
-        self.empty += other.empty
 
 
 def place_in(uri: str, span: Any) -> Place:
@@ -99,29 +53,39 @@ def places_in(result: Any) -> list[Place]:
     )
 
 
-def words_in(uri: str, data: list[int], types: list[str]) -> Iterator[Place]:
+def words_in(
+    uri: str, data: list[int], types: list[str], is_keyword: Callable[[Place], bool]
+) -> Iterator[Place]:
     """The words of a document by the server's tokens, each of which says how far behind the one
-    before it begins."""
+    before it begins; of other tokens than names those that are keywords that the server is asked of.
+    """
     line = start = 0
     for at in range(0, len(data) - 4, 5):
         lines, characters, length, kind = data[at : at + 4]
         line, start = line + lines, characters if lines else start + characters
-        if length > 0 and types[kind] not in NO_NAMES:
-            yield Place(uri, line, start, line, start + length)
+        word = Place(uri, line, start, line, start + length)
+        if length > 0 and (types[kind] not in NO_NAMES or is_keyword(word)):
+            yield word
 
 
 def names_in(uri: str, found: Any, around: tuple[str, ...] = ()) -> Iterator[tuple[Place, Name]]:
     """The names that a document declares, by the protocol's tree or list. Of several with one name
-    side by side all but the first have a number."""
-    seen = Counter[str]()
-    for one in found or ():
+    side by side those that are called have their types too, as a server says them, and all but
+    the first of what is still the same have a number."""
+    found, seen = list(found or ()), Counter[str]()
+    named = Counter(one["name"] for one in found)
+    for one in found:
         place = place_in(uri, one.get("selectionRange") or one["location"]["range"])
         whole = place_in(uri, one["range"]) if "range" in one else place
-        seen[one["name"]] += 1
-        number = f"#{seen[one['name']]}" if seen[one["name"]] > 1 else ""
-        name, lines = one["name"] + number, whole.end_line - whole.line
+        name = one["name"]
+        if named[name] > 1 and one["kind"] in CALLED and one.get("detail"):
+            name = f"{name} {one['detail']}"
+        seen[name] += 1
+        if seen[name] > 1:
+            name = f"{name}#{seen[name]}"
+        lines = whole.end_line - whole.line
         size = lines, whole.end - (0 if lines else whole.start)
-        yield place, Name(around, name, one["kind"], size)
+        yield place, Name(around, name, one["kind"], size, str(one.get("detail") or ""))
         yield from names_in(uri, one.get("children"), (*around, name))
 
 
@@ -134,12 +98,13 @@ def at(place: Place) -> dict[str, Any]:
 class Asking:
     """Asks a server of documents that are open in it. What isn't answered for a fault is noted."""
 
-    def __init__(self, talk: Conversation, found: Answers, notes: Notes, shows: Shows) -> None:
+    def __init__(self, talk: Team, lines: Lines, notes: Notes, shows: Shows) -> None:
         """Raises BadCall where the server has no tokens."""
-        self.talk, self.found, self.notes, self.shows = talk, found, notes, shows
-        legend = (talk.offers.get("semanticTokensProvider") or {}).get("legend") or {}
+        self.talk, self.lines, self.notes, self.shows = talk, lines, notes, shows
+        self.found, self.faulty = Answers(), set[Any]()
+        legend = (talk.first.offers.get("semanticTokensProvider") or {}).get("legend") or {}
         self.types: list[str] = legend.get("tokenTypes") or []
-        if not self.types:
+        if not self.types and not talk.first.shown:
             text = (
                 "it has no semantic tokens, by which the words are known that it doesn't guess at"
             )
@@ -158,14 +123,14 @@ class Asking:
             count += 1
             self.shows.at(count)
             if fault and not any(text in fault for text in NO_ANSWER):
-                self.notes.leave_out(f"{what}: {fault}", str(tag))
+                self.leave_out(f"{what}: {fault}", tag)
             elif fault or not result:
                 empty += 1
             else:
                 try:
                     take(tag, result)
                 except FORMLESS:
-                    self.notes.leave_out(f"{what}: an answer without the protocol's form", str(tag))
+                    self.leave_out(f"{what}: an answer without the protocol's form", tag)
         self.shows.end(f"{count} asked, {empty} empty")
 
     def documents(self, uris: list[str]) -> None:
@@ -174,16 +139,25 @@ class Asking:
         words = dict[Place, Any]()
 
         def take(uri: str, result: Any) -> None:
-            for word in words_in(uri, result["data"], self.types):
+            for word in words_in(uri, result["data"], self.types, self.is_keyword):
                 words[word] = at(word)
 
-        whole = {uri: {"textDocument": {"uri": uri}} for uri in uris}
-        self.ask("words", "semanticTokens/full", whole, take)
+        if self.types:
+            whole = {uri: {"textDocument": {"uri": uri}} for uri in uris}
+            self.ask("words", "semanticTokens/full", whole, take)
+        for uri in [] if self.types else uris:
+            shown = {place_in(uri, span) for span in self.talk.first.shown.get(uri, ())}
+            words |= {word: at(word) for word in sorted(shown) if word.line == word.end_line}
         self.outlines("names", uris)
         self.found.words |= {word.at: word for word in words}
         before = len(self.found.leads)
         self.ask("definitions", "definition", words, self.take_places(self.found.leads))
         self.found.empty += len(words) - len(self.found.leads) + before
+
+    def is_keyword(self, word: Place) -> bool:
+        """Whether a word is a keyword that is a name."""
+        keywords = self.talk.kind.keywords
+        return bool(keywords) and self.lines.text(word) in keywords
 
     def outlines(self, what: str, uris: Iterable[str]) -> None:
         """Asks for the names that documents declare."""
@@ -199,27 +173,36 @@ class Asking:
         """What keeps the places of answers."""
 
         def take(word: Place, result: Any) -> None:
-            places = places_in(result)
+            places = sorted(set(map(self.lines.unmarked, places_in(result))))
             if places:
                 found[word] = places
 
         return take
 
-    def symbols(self, tags: dict[Place, Place]) -> None:
-        """Asks what is said of symbols, at a word that leads to each, and which implement them."""
+    def leave_out(self, what: str, tag: Any) -> None:
+        """Notes that there's no answer for a document or a place."""
+        self.notes.leave_out(what, str(tag))
+        self.faulty.add(tag)
 
-        def take(word: Place, result: Any) -> None:
+    def hovers(self, tags: dict[Place, Place]) -> None:
+        """Asks what is said of symbols, each at a word that leads to it."""
+
+        def take(symbol: Place, result: Any) -> None:
             if hover_text(result["contents"]):
-                self.found.hovers[word] = result["contents"]
+                self.found.hovers[symbol] = result["contents"]
 
-        offers, names = self.talk.offers, self.found.names
-        if offers.get("hoverProvider"):
-            self.ask("hovers", "hover", {word: at(word) for word in tags.values()}, take)
-        able = {
-            word: at(word)
-            for symbol, word in tags.items()
-            if symbol.at in names and names[symbol.at].kind in IMPLEMENTED
-        }
-        if offers.get("implementationProvider"):
+        if self.talk.first.offers.get("hoverProvider"):
+            asked = {symbol: at(word) for symbol, word in tags.items()}
+            self.ask("hovers", "hover", asked, take)
+
+    def implementations(self, tags: dict[Place, Place]) -> None:
+        """Asks what implements symbols, each at a word that leads to it."""
+        if self.talk.first.offers.get("implementationProvider"):
             keep = self.take_places(self.found.implementations)
-            self.ask("implementations", "implementation", able, keep)
+            asked = {symbol: at(word) for symbol, word in tags.items()}
+            self.ask("implementations", "implementation", asked, keep)
+
+    def may_be_implemented(self, symbol: Place) -> bool:
+        """Whether a symbol is of a kind that may be."""
+        name = self.found.names.get(symbol.at)
+        return name is not None and name.kind in IMPLEMENTED

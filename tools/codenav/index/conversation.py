@@ -1,105 +1,29 @@
 """A language server that is asked many things at once: waited for, and started again where it ends
 or hangs. What it leaves unanswered is told, with the reason."""
 
+import threading
 import time
-from collections import deque
-from typing import Any, BinaryIO, Iterable, Iterator, NamedTuple, Optional
+from typing import Any, BinaryIO, Iterable, Iterator, Optional
 
 from codenav.addresses import spelled
 from codenav.faults import BadCall
-from codenav.index.languages import ServerKind
-from codenav.index.process import Limits, Lost, Process
+from codenav.index.capabilities import CAPABILITIES
+from codenav.index.given import Given
+from codenav.index.languages import DIAGNOSTICS, HIGHLIGHTS, STATUS, ServerKind
+from codenav.index.process import Lost, Process
+from codenav.index.questions import Answer, Job, Question, Work
 from codenav.lsp.jsonrpc import Message
 from codenav.texts.places import uri_of
 
-TOKENS = (
-    "namespace type class enum interface struct typeParameter parameter variable property enumMember "
-    "event function method macro keyword modifier comment string number regexp operator decorator"
-)
-LINKS = {"linkSupport": True}
-CAPABILITIES = {
-    "general": {"positionEncodings": ["utf-16"]},
-    "textDocument": {
-        "definition": LINKS,
-        "declaration": LINKS,
-        "implementation": LINKS,
-        "hover": {"contentFormat": ["markdown", "plaintext"]},
-        "documentSymbol": {"hierarchicalDocumentSymbolSupport": True},
-        "publishDiagnostics": {},
-        "semanticTokens": {
-            "dynamicRegistration": True,
-            "requests": {"full": True},
-            "tokenTypes": TOKENS.split(),
-            "tokenModifiers": [],
-            "formats": ["relative"],
-        },
-    },
-    "window": {"workDoneProgress": True},
-    "workspace": {"configuration": True, "workspaceFolders": True},
-}
 AGAIN = (-32801, -32802)
 """The errors ContentModified and ServerCancelled: the question is asked again."""
 MOST_AGAIN, MOST_IN_VAIN = 20, 8
 STEP_SECONDS = 0.2
 ERROR = 1
-
-
-class Question(NamedTuple):
-    """A request, and whose it is."""
-
-    tag: Any
-    method: str
-    params: dict[str, Any]
-
-
-class Answer(NamedTuple):
-    """The answer to a question, or why there's none."""
-
-    tag: Any
-    result: Any
-    fault: str = ""
-
-
-class Job:
-    """A question on its way: how often it was asked again, and how often the server was lost over it
-    alone."""
-
-    def __init__(self, question: Question) -> None:
-        self.question, self.again, self.lost = question, 0, 0
-
-    def answer(self, result: Any, fault: str = "") -> Answer:
-        """Its answer."""
-        return Answer(self.question.tag, result, fault)
-
-
-class Work:
-    """Questions: those under way by their numbers, those that are asked one by one, and the rest."""
-
-    def __init__(self, questions: Iterable[Question]) -> None:
-        self.rest, self.careful = deque(map(Job, questions)), deque[Job]()
-        self.flying: dict[int, Job] = {}
-
-    def next(self, window: int) -> Optional[Job]:
-        """The next one to ask where there's room."""
-        if self.careful:
-            return None if self.flying else self.careful.popleft()
-        is_alone = any(job.lost for job in self.flying.values())
-        room = self.rest and len(self.flying) < window and not is_alone
-        return self.rest.popleft() if room else None
-
-    def lost(self, why: str) -> Iterator[Answer]:
-        """Has those under way be asked one by one; what lost the server alone twice isn't."""
-        jobs, self.flying = list(self.flying.values()), {}
-        for job in jobs:
-            job.lost += len(jobs) == 1
-            if job.lost > 1:
-                yield job.answer(None, f"{why}, twice")
-            else:
-                self.careful.append(job)
-
-    def all(self) -> list[Job]:
-        """All that have no answer."""
-        return [*self.flying.values(), *self.careful, *self.rest]
+STARTING = 4
+"""So many times longer than else a server may say nothing at its start."""
+READY = "ready"
+"""The question by which ccls is asked whether it's ready."""
 
 
 class Conversation:
@@ -109,20 +33,21 @@ class Conversation:
     def __init__(
         self,
         kind: ServerKind,
-        folder: str,
+        given: Given,
         settings: dict[str, Any],
-        limits: Limits,
         log: BinaryIO,
     ) -> None:
-        self.kind, self.folder, self.settings = kind, folder, settings
-        self.limits, self.log = limits, log
+        self.kind, self.given, self.settings = kind, given, settings
+        self.limits, self.log = given.limits, log
         self.opened: dict[str, dict[str, Any]] = {}
         self.errors: dict[str, list[str]] = {}
         self.offers: dict[str, Any] = {}
-        self.diagnosed, self.active = set[str](), set[str]()
+        self.read, self.active, self.is_quiet = set[str](), set[str](), False
+        self.shown: dict[str, list[Any]] = {}
         self.number = self.restarts = self.vain = 0
-        self.dead, self.end = "", time.monotonic() + limits.seconds
+        self.dead, self.end = "", time.monotonic() + self.limits.seconds
         self.process: Optional[Process] = None
+        self.lock, self.is_over = threading.Lock(), False
 
     def __enter__(self) -> "Conversation":
         try:
@@ -133,6 +58,8 @@ class Conversation:
         return self
 
     def __exit__(self, *_: object) -> None:
+        with self.lock:
+            self.is_over = True
         self.stop()
 
     def stop(self) -> None:
@@ -150,9 +77,12 @@ class Conversation:
 
     def start(self) -> None:
         """Starts the process, and opens again what was open. Raises BadCall where it doesn't answer."""
-        self.diagnosed, self.active = set(), set()
-        self.process = Process(self.kind.line, self.folder, self.limits, self.log)
-        uri = uri_of(self.folder, [])
+        self.read, self.active, self.is_quiet = set(), set(), False
+        with self.lock:
+            if self.is_over:
+                raise BadCall("it's over")
+            self.process = Process(self.kind.line, self.given, self.log)
+        uri = uri_of(self.given.folder, [])
         self.process.send(
             id=0,
             method="initialize",
@@ -165,7 +95,8 @@ class Conversation:
             },
         )
         try:
-            while (message := self.process.next(self.limits.patience)) is not None:
+            patience = STARTING * self.limits.patience
+            while (message := self.process.next(patience)) is not None:
                 if message.get("id") == 0 and "method" not in message:
                     break
                 self.heard(message)
@@ -197,20 +128,35 @@ class Conversation:
         """Takes what the server says of itself, and answers what it asks."""
         method, params = message.get("method"), message.get("params")
         params = params if isinstance(params, dict) else {}
+        uri = spelled(str(params.get("uri")))
+        if method == (self.kind.sign or DIAGNOSTICS):
+            self.read.add(uri)
         if method == "$/progress" and isinstance(params.get("value"), dict):
             is_end = params["value"].get("kind") == "end"
             (self.active.discard if is_end else self.active.add)(str(params.get("token")))
-        elif method == "textDocument/publishDiagnostics":
+        elif method == DIAGNOSTICS:
             found = [one for one in params.get("diagnostics", ()) if isinstance(one, dict)]
-            uri = spelled(str(params.get("uri")))
-            self.diagnosed.add(uri)
             self.errors[uri] = [
                 str(one.get("message")) for one in found if one.get("severity", ERROR) == ERROR
             ]
+        elif method == STATUS:
+            self.is_quiet = params.get("quiescent") is True
+        elif method == HIGHLIGHTS:
+            symbols = [one for one in params.get("symbols", ()) if isinstance(one, dict)]
+            self.shown[uri] = [span for one in symbols for span in one.get("lsRanges", ())]
         elif method == "client/registerCapability":
             for one in params.get("registrations", ()):
                 if isinstance(one, dict) and one.get("method") == "textDocument/semanticTokens":
                     self.offers["semanticTokensProvider"] = one.get("registerOptions")
+        if (
+            message.get("id") == READY
+            and method is None
+            and isinstance(message.get("result"), dict)
+        ):
+            counts = message["result"].get("pipeline") or {}
+            self.is_quiet = (
+                counts.get("enqueued") == counts.get("completed") == counts.get("lastIdle")
+            )
         if "id" in message and method is not None:
             items = params.get("items", ()) if method == "workspace/configuration" else ()
             result = [self.settings for _ in items] if items else None
@@ -218,9 +164,14 @@ class Conversation:
 
     def is_ready(self, silent: float) -> bool:
         """Whether the server, silent for so many seconds, has read what is open."""
-        is_read = self.opened.keys() <= self.diagnosed
-        is_silent = silent > self.kind.silence and not self.kind.is_diagnosing
-        return (is_read or is_silent) and not self.active
+        is_read = self.opened.keys() <= self.read
+        if self.kind.sign == HIGHLIGHTS:
+            return is_read and self.is_quiet  # the end of its progress it says only when it's asked
+        if self.kind.sign == STATUS:
+            is_read = self.is_quiet
+        if not self.kind.sign:
+            is_read = silent > self.kind.silence or (is_read and bool(self.opened))
+        return is_read and not self.active
 
     def settle(self) -> bool:
         """Waits until the server has read what is open; says whether it came to that."""
@@ -230,7 +181,9 @@ class Conversation:
                 message = self.running.next(STEP_SECONDS)
                 if message is not None:
                     self.heard(message)
-                    heard = time.monotonic()
+                    heard = time.monotonic() if "method" in message else heard
+                elif self.kind.sign == HIGHLIGHTS:
+                    self.running.send(id=READY, method="$ccls/info", params={})
                 if time.monotonic() > min(heard + longest, self.end):
                     return False
         except Lost:

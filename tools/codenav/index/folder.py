@@ -1,10 +1,10 @@
-"""Makes a dump of a folder by asking the language servers of its languages."""
+"""Makes a dump of a folder by what answers of its languages where no indexer is."""
 
 import os
 import tempfile
-from collections import defaultdict
+from contextlib import nullcontext
 from dataclasses import dataclass, field
-from typing import NamedTuple, Sequence
+from typing import BinaryIO, Optional, Sequence
 
 from codenav import VERSION
 from codenav.dumps.dump import opened_dump
@@ -13,19 +13,18 @@ from codenav.dumps.prepare.plan import Options
 from codenav.dumps.prepare.prepare import prepare
 from codenav.faults import BadCall
 from codenav.files import whole_file
-from codenav.index.asked import Answers, Asking, Place
-from codenav.index.conversation import Conversation
+from codenav.index.answers import Answers, Place
+from codenav.index.documents import Lines, documents_in
+from codenav.index.given import Document, Given, Limits
 from codenav.index.grouped import Grouped
-from codenav.index.indexers import tail_of
-from codenav.index.languages import LANGUAGES, Language, ServerKind, installed, language_of
-from codenav.index.monikers import Monikers
-from codenav.index.packages import package_of, told
-from codenav.index.process import Limits
-from codenav.index.tags_file import files_of
+from codenav.index.kept import Kept, Written, read
+from codenav.index.languages import LANGUAGES, Language, Pass, Way, installed
+from codenav.index.monikers import Monikers, Packages
+from codenav.index.packages import Package, told, usual
+from codenav.index.server import Server
 from codenav.index.written import DumpWriter
 from codenav.outcome import Note, Notes, Outcome
 from codenav.progress import Shows
-from codenav.texts.decoded import body_of, decoded, lines_in
 from codenav.texts.places import path_of, uri_of
 
 TO_MIND = "to mind"
@@ -36,157 +35,151 @@ TO_MIND = "to mind"
 class How:
     """How a folder is indexed: by the server that a line calls in place of the known one, as that
     package in place of its manifest's; `on_server` are the names of packages that the code navigation
-    server has."""
+    server has. A file keeps what was answered, so that only what changed is asked of the servers the
+    next time."""
 
     server: str = ""
     package: str = ""
+    state: str = ""
     on_server: list[str] = field(default_factory=list)
     limits: Limits = Limits()
-
-
-class Document(NamedTuple):
-    """A file of the folder: its address, its language by the protocol, and its text."""
-
-    uri: str
-    language: str
-    text: str
-
-
-Documents = dict[str, list[Document]]
-"""By the names of their languages."""
-
-
-def documents_in(folder: str, notes: Notes) -> Documents:
-    """The documents of a folder whose languages are known."""
-    found = defaultdict[str, list[Document]](list)
-    for name in sorted(set(files_of(folder, "--cached", "--others", "--exclude-standard"))):
-        path = os.path.join(folder, os.fsdecode(name))
-        known = language_of(path)
-        if known is None:
-            continue
-        try:
-            text = decoded(body_of(path))
-        except (BadCall, ValueError) as fault:
-            notes.leave_out(f"a file that can't be read: {fault}", path)
-            continue
-        found[known[0].name].append(Document(uri_of(path, []), known[1], text))
-    return dict(found)
 
 
 class NoLanguage(BadCall):
     """A folder without a file of a known language."""
 
 
-def servers_of(folder: str, documents: Documents, line: str) -> list[tuple[Language, ServerKind]]:
-    """The languages and their servers. Raises NoLanguage, or BadCall where one isn't installed."""
+class NoAnswers(BadCall):
+    """A folder of whose words none leads anywhere, so that there's no index of it."""
+
+
+def ways_of(
+    folder: str, documents: dict[str, list[Document]], line: str, notes: Notes
+) -> list[tuple[Language, Way]]:
+    """The languages, and what answers of each; one of which nothing that answers is installed is left
+    out. Raises NoLanguage, or BadCall where that's all."""
     if not documents:
         raise NoLanguage(f"{folder}: no file of a language that is known here")
     if line and len(documents) > 1:
         raise BadCall(f"--server is asked of one language, and here are {' and '.join(documents)}")
-    return [(one, installed(one, line)) for one in LANGUAGES if one.name in documents]
+    found, faults = list[tuple[Language, Way]](), list[BadCall]()
+    for language in LANGUAGES:
+        if language.name in documents:
+            try:
+                found.append((language, installed(language, line)))
+            except BadCall as fault:
+                faults.append(fault)
+                notes.leave_out(str(fault), folder)
+    if not found:
+        raise faults[0]
+    return found
+
+
+def own_packages(
+    folder: str, languages: Sequence[Language], given: str
+) -> dict[str, Optional[Package]]:
+    """The package that a folder is of for each language: by its manifest, or the one that is given
+    for those with its manager, which are all where there's none."""
+    own = {one.name: one.package_of(folder) for one in languages}
+    if given:
+        package = told(given)
+        of_it = [one.name for one in languages if one.manager == package.manager]
+        own |= dict.fromkeys(of_it or own, package)
+    return own
 
 
 class Indexing:
     """A folder on the way to its dump."""
 
     def __init__(self, folder: str, how: How, shows: Shows) -> None:
-        """Raises BadCall where there's no folder, no language, or no server."""
+        """Raises BadCall where there's no folder, no language, or nothing that answers of one."""
         if not os.path.isdir(folder):
             raise BadCall(f"{folder}: no folder")
         self.folder, self.how, self.shows = os.path.realpath(folder), how, shows
-        self.own = told(how.package) if how.package else package_of(self.folder)
         self.notes, self.found, self.minds = Notes(), Answers(), list[Note]()
         self.documents = documents_in(self.folder, self.notes)
-        self.servers = servers_of(self.folder, self.documents, how.server)
+        self.ways = ways_of(self.folder, self.documents, how.server, self.notes)
+        languages = [language for language, _ in self.ways]
+        self.own = own_packages(self.folder, languages, how.package)
         own = [one for many in self.documents.values() for one in many]
-        self.uris = {one.uri for one in own}
-        self.lines = {one.uri: lines_in(one.text) for one in own}
-        self.monikers = Monikers(
-            self.folder, self.own, how.on_server, self.found.names, self.line_of, self.notes
-        )
-
-    def line_of(self, uri: str, number: int) -> str:
-        """A line of a document."""
-        if uri not in self.lines:
-            try:
-                self.lines[uri] = lines_in(decoded(body_of(path_of(uri, []) or "")))
-            except (BadCall, ValueError):
-                self.lines[uri] = []
-        return self.lines[uri][number] if number < len(self.lines[uri]) else ""
+        self.uris, self.lines = {one.uri for one in own}, Lines(own)
+        self.before, self.after = read(how.state) if how.state else {}, dict[str, Kept]()
 
     def mind(self, text: str) -> None:
         """Notes what may be answered otherwise than is meant."""
         self.minds.append(Note(TO_MIND, text))
 
-    def write(self, path: str, work: str) -> Outcome:
-        """Asks all, and writes the dump; what the servers say themselves stays in a folder."""
-        for number, (language, kind) in enumerate(self.servers):
-            identifiers = {one.language for one in self.documents[language.name]}
-            settings, said = kind.settings_of(self.folder, identifiers), os.path.join(
-                work, f"{number}"
-            )
+    def write(self, path: str, work: str, state: Optional[BinaryIO] = None) -> Outcome:
+        """Asks all, and writes the dump, and what is kept of it; what is made on the way stays in a
+        folder. Raises NoAnswers."""
+        on_server = [*self.how.on_server, *map(usual, self.how.on_server)]
+        packages = Packages(self.folder, self.own, on_server)
+        packages.known = self.found.packages
+        for language, way in self.ways:
             try:
-                with (
-                    open(said, "wb") as log,
-                    Conversation(kind, self.folder, settings, self.how.limits, log) as talk,
-                ):
-                    self.ask(language, talk)
+                found = self.answers(language, way, self.given(language, work), packages)
             except BadCall as fault:
-                raise BadCall(": ".join(filter(None, [str(fault), tail_of(said)]))) from None
+                if len(self.ways) == 1:
+                    raise
+                self.notes.leave_out(f"{language.name}: {fault}", self.folder)
+                continue
+            if found.words and not found.leads:
+                self.notes.leave_out("a language of whose words none leads anywhere", language.name)
+            self.found.add(found)
+        if not self.found.leads:
+            whys = [str(note) for note in self.notes.all()]
+            of = f"{self.folder}: of {len(self.found.words)} words none leads anywhere"
+            raise NoAnswers("; ".join([of, *whys]))
         grouped = Grouped(self.found)
+        monikers = Monikers(packages, self.found, self.lines, self.notes)
         with whole_file(path) as out:
-            writer = DumpWriter(out, grouped, self.monikers, self.notes)
+            writer = DumpWriter(out, grouped, monikers, self.notes)
             writer.write(uri_of(self.folder, []), sorted(self.uris), VERSION)
+        if state is not None:
+            kept = Written(state)
+            for name, one in self.after.items():
+                kept.write(name, one)
         self.mind_copies(grouped.symbols)
-        if self.own is None:
-            self.mind(
-                "no package is known (--package of `codenav index`), so other projects don't lead here"
-            )
+        for name, own in self.own.items():
+            if own is None:
+                self.mind(
+                    f"no package is known of {name} (--package of `codenav index`), so other projects don't lead here"
+                )
         files, words = len(self.uris), len(self.found.words)
         said = f"{files} files, {words} words, {self.found.empty} of them without a definition"
         return Outcome(said, {}, (*self.minds, *self.notes.all()))
 
-    def ask(self, language: Language, talk: Conversation) -> None:
-        """Asks a server of its documents."""
-        manifests = [os.path.join(self.folder, name) for name in language.manifests]
-        if not any(map(os.path.exists, manifests)):
-            self.mind(language.without)
-        documents = self.documents[language.name]
-        self.shows.begin(f"opened by {talk.kind.line}", len(documents), "")
-        for document in documents:
-            talk.open(*document)
-        if not talk.settle():
-            self.notes.leave_out("the server wasn't ready, and was asked all the same", self.folder)
-        self.shows.end(f"{len(documents)} files")
-        found = Answers()
-        asking = Asking(talk, found, self.notes, self.shows)
-        asking.documents([document.uri for document in documents])
-        self.ask_outside(asking)
-        asking.symbols(Grouped(found).tags())
-        self.found.add(found)
-        if talk.restarts:
-            self.mind(f"the server was started again, {talk.restarts} times: {talk.kind.line}")
-        for uri in [document.uri for document in documents]:
-            for text in talk.errors.get(uri, [])[:1]:
-                where = f"{path_of(uri, []) or uri}: {text}"
-                self.notes.leave_out("answers of a file that has errors for the server", where)
+    def answers(self, language: Language, way: Way, given: Given, packages: Packages) -> Answers:
+        """What is answered of a language. Raises BadCall."""
+        if isinstance(way, Pass):
+            return way.answers(given)
+        before = self.before.get(language.name, Kept())
+        server = Server(language, way, given, packages, self.lines, before)
+        found = server.answers()
+        self.after[language.name] = server.after
+        return found
 
-    def ask_outside(self, asking: Asking) -> None:
-        """Asks for the names in documents of other packages that are on the server."""
-        led = {place.uri for places in asking.found.leads.values() for place in places}
-        outside = [uri for uri in sorted(led) if self.monikers.is_elsewhere(uri)]
-        for uri in outside:
-            known = language_of(uri)
-            self.line_of(uri, 0)
-            asking.talk.open(uri, known[1] if known else "c", "\n".join(self.lines[uri]))
-        if outside:
-            asking.outlines("names outside", outside)
-        for uri in outside:
-            asking.talk.close(uri)
+    def given(self, language: Language, work: str) -> Given:
+        """What is given of a language's documents."""
+        manifests = [os.path.join(self.folder, name) for name in language.manifests]
+        if manifests and not any(map(os.path.exists, manifests)):
+            self.mind(language.without)
+        how = self.how
+        return Given(
+            self.folder,
+            self.own[language.name],
+            self.documents[language.name],
+            how.on_server,
+            how.limits,
+            tempfile.mkdtemp(dir=work),
+            self.notes,
+            self.mind,
+            self.shows,
+        )
 
     def mind_copies(self, symbols: Sequence[Place]) -> None:
         """Says which files of the folder may be answered from an installed copy."""
-        names = {os.path.basename(uri): uri for uri in self.uris}
+        names = {os.path.basename(uri): uri for uri in self.uris if not uri.endswith(".py")}
         for uri in sorted({symbol.uri for symbol in symbols} - self.uris):
             own = names.get(os.path.basename(uri))
             if own:
@@ -195,10 +188,14 @@ class Indexing:
 
 def index(folder: str, out: str, how: How, shows: Shows) -> Outcome:
     """Writes the dump of a folder, prepared for the server, into a file."""
-    with tempfile.TemporaryDirectory(prefix="codenav-index-") as work:
+    with (
+        tempfile.TemporaryDirectory(prefix="codenav-index-", ignore_cleanup_errors=True) as work,
+        whole_file(out) as file,
+        whole_file(how.state) if how.state else nullcontext() as state,
+    ):
         raw = os.path.join(work, "raw.lsif")
-        said = Indexing(folder, how, shows).write(raw, work)
-        with opened_dump(raw) as source, whole_file(out) as file:
+        said = Indexing(folder, how, shows).write(raw, work, state)
+        with opened_dump(raw) as source:
             assert isinstance(source, Source)
             made = prepare(source, file, Options(strip=True, profile="2"), shows)
     return Outcome(said.said, made.counts, (*said.notes, *made.notes), made.over)

@@ -2,39 +2,50 @@
 
 from collections import Counter, defaultdict
 
-from codenav.index.asked import Answers, Place
+from codenav.index.answers import Answers, Place
 from codenav.index.languages import is_header
 
 
 class Grouped:
-    """Which symbols each word leads to, and of each symbol the declarations apart from its definition
-    and the words that use it."""
+    """Which symbols each word leads to, and of each symbol its further definitions, the declarations
+    apart from these, and the words that use it."""
 
     def __init__(self, found: Answers) -> None:
         self.found = found
-        self.declared: defaultdict[Place, list[Place]] = defaultdict(list)
+        self.declared = defaultdict[Place, list[Place]](list)
+        self.further = defaultdict[Place, list[Place]](list)
+        for kept, known in ((self.declared, found.declared), (self.further, found.further)):
+            for symbol, places in known.items():
+                kept[symbol] = list(map(self.snapped, places))
         self.uses: defaultdict[Place, list[Place]] = defaultdict(list)
         self.leads = {
             word: list(dict.fromkeys(map(self.snapped, places)))
             for word, places in sorted(found.leads.items())
         }
+        for symbol, places in self.further.items():
+            for place in places:
+                self.leads.setdefault(place, [symbol])
         self.pair()
+        several = [*self.declared.items(), *self.further.items()]
+        apart = {(place, symbol) for symbol, places in several for place in places}
         self.symbols = sorted({symbol for places in self.leads.values() for symbol in places})
         for word, places in self.leads.items():
             for symbol in places:
-                if word != symbol and word not in self.declared[symbol]:
+                if word != symbol and (word, symbol) not in apart:
                     self.uses[symbol].append(word)
 
     def snapped(self, place: Place) -> Place:
         """The word that begins at a place. That of a whole file is empty, for one of any width would
-        answer for the words in it."""
+        answer for the words in it; where a word is there it's over lines, and answers for none."""
         if (place.line, place.start) == (0, 0) and place.at not in self.found.words:
             return Place(place.uri, 0, 0, 0, 0)
+        if (place.line, place.start) == (0, 0) and place.line != place.end_line:
+            return place
         return self.found.words.get(place.at, place)
 
-    def implementing(self, word: Place) -> list[Place]:
-        """Where what a word leads to is implemented: the definitions of what the server names."""
-        places = map(self.snapped, self.found.implementations.get(word, []))
+    def implementing(self, symbol: Place) -> list[Place]:
+        """Where a symbol is implemented: the definitions of what was answered."""
+        places = map(self.snapped, self.found.implementations.get(symbol, []))
         return sorted({to for place in places for to in self.leads.get(place, [place])})
 
     def size(self, place: Place) -> tuple[int, int]:

@@ -1,56 +1,83 @@
-"""The languages that a language server may be asked of, and how each server is called."""
+"""The languages that may be indexed without an indexer, and what answers of each: a language server,
+or a pass of our own over all its files."""
 
 import os
 import shlex
 import shutil
-from typing import Any, Callable, Mapping, NamedTuple, Optional
+from typing import Any, Callable, Mapping, NamedTuple, Optional, Sequence, Union
 
 from codenav.faults import BadCall
+from codenav.index import settings
+from codenav.index.again import Depends, by_includes, by_leads
+from codenav.index.answers import Answers
+from codenav.index.given import Document, Given
+from codenav.index.packages import (
+    Package,
+    c_package,
+    crate_in,
+    go_package,
+    npm_package,
+    pip_package,
+)
+from codenav.index.python import line as python
+from codenav.index.typescript import checker
 
+DIAGNOSTICS, HIGHLIGHTS = "textDocument/publishDiagnostics", "$ccls/publishSemanticHighlight"
+STATUS = "experimental/serverStatus"
+"""By what servers say that they have read a document, or all."""
 HEADERS = (".h", ".hh", ".hpp", ".hxx", "")
-
-
-def no_settings(_: str, __: set[str]) -> dict[str, Any]:
-    """The settings of a server that needs none."""
-    return {}
-
-
-def c_flags(folder: str, identifiers: set[str]) -> dict[str, Any]:
-    """The settings of clangd where nothing says how files are compiled: headers are C unless there's
-    C++, and the folder's own ones come before installed ones."""
-    folders = [folder, *(os.path.join(folder, name) for name in ("include", "src"))]
-    flags = [f"-I{one}" for one in folders if os.path.isdir(one)]
-    return {"fallbackFlags": [*(["-xc"] if identifiers == {"c"} else []), *flags]}
-
-
-def go_settings(_: str, __: set[str]) -> dict[str, Any]:
-    """The settings of gopls: it has tokens where that's asked for."""
-    return {"semanticTokens": True}
 
 
 class ServerKind(NamedTuple):
     """A language server: how it's called, Debian's package of it, and its settings for a folder and
-    the protocol's identifiers of the languages there. It's ready when it has sent the diagnostics of each open document, or when it has been silent for so many
-    seconds with no progress under way."""
+    its documents. It's ready when it has sent its sign, of each
+    open document or of itself, or where it has none when it has been silent for so many seconds
+    with no progress under way. It's asked of some keywords too, which are names."""
 
     line: str
     package: str = ""
-    settings_of: Callable[[str, set[str]], dict[str, Any]] = no_settings
-    is_diagnosing: bool = False
+    settings_of: Callable[[str, Sequence[Document]], dict[str, Any]] = settings.none
+    sign: str = ""
     silence: float = 2
+    keywords: frozenset[str] = frozenset()
+
+    def lacks(self) -> str:
+        """What of it isn't installed; empty where all is."""
+        program = next(iter(shlex.split(self.line)), "")
+        return "" if shutil.which(program) else program
+
+
+class Pass(NamedTuple):
+    """What answers of all documents of a language at once: how it's called, Debian's packages of it,
+    what of it isn't installed, and its answers of a folder."""
+
+    line: str
+    package: str
+    lacks: Callable[[], str]
+    answers: Callable[[Given], Answers]
+
+
+Way = Union[ServerKind, Pass]
 
 
 class Language(NamedTuple):
     """A language: the identifiers by which the protocol knows it, by the suffixes of its files; what
-    is at the top of a folder where it's built, and what is missed where none of that is there; and the indexer that comes before the server.
+    answers of it, the first that's installed; what is at the top of a folder where it's built, and
+    what is missed where none of that is there; the indexer that comes before these; its packages'
+    manager, and the package of a folder; what depends on a file that changed; and whether a type
+    implements another by what it has alone.
     """
 
     name: str
     suffixes: Mapping[str, str]
-    server: ServerKind
+    ways: tuple[Way, ...]
     manifests: tuple[str, ...]
     without: str
     indexer: str
+    manager: str
+    package_of: Callable[[str], Optional[Package]]
+    depends: Depends = by_leads
+    is_structural: bool = False
 
 
 LANGUAGES = (
@@ -58,20 +85,86 @@ LANGUAGES = (
         "C and C++",
         {".c": "c", ".h": "c"}
         | dict.fromkeys((".cc", ".cpp", ".cxx", ".hh", ".hpp", ".hxx"), "cpp"),
-        ServerKind(
-            "clangd --background-index=0 --log=error", "clangd", c_flags, is_diagnosing=True
+        (
+            ServerKind(
+                "clangd --background-index=0 --log=error",
+                "clangd",
+                settings.clangd,
+                DIAGNOSTICS,
+            ),
+            ServerKind("ccls", "ccls", settings.ccls, HIGHLIGHTS),
         ),
         ("compile_commands.json", "compile_flags.txt", "build/compile_commands.json"),
         "no compile_commands.json (`bear -- make` writes it): the server guesses how files are compiled",
         "scip-clang",
+        "pkg-config",
+        c_package,
+        by_includes,
     ),
     Language(
         "Go",
         {".go": "go"},
-        ServerKind("gopls", "gopls and golang-go", go_settings),
+        (ServerKind("gopls", "gopls and golang-go", settings.gopls),),
         ("go.mod", "go.work"),
         "no go.mod: the server takes each folder for a package without a name",
         "scip-go",
+        "gomod",
+        go_package,
+        is_structural=True,
+    ),
+    Language(
+        "Python",
+        {".py": "python", ".pyi": "python"},
+        (
+            Pass(
+                "Python's own rules, and Debian's python3-jedi",
+                "python3",
+                python.lacks,
+                python.answers,
+            ),
+        ),
+        (),
+        "",
+        "scip-python",
+        "pip",
+        pip_package,
+    ),
+    Language(
+        "Rust",
+        {".rs": "rust"},
+        (
+            ServerKind(
+                "rust-analyzer",
+                "",
+                settings.rust_analyzer,
+                STATUS,
+                keywords=frozenset(("crate", "super", "self", "Self")),
+            ),
+        ),
+        ("Cargo.toml", "rust-project.json"),
+        "no Cargo.toml: the server takes each file for one that's alone",
+        "rust-analyzer",
+        "cargo",
+        crate_in,
+    ),
+    Language(
+        "TypeScript and JavaScript",
+        dict.fromkeys((".ts", ".mts", ".cts"), "typescript")
+        | dict.fromkeys((".js", ".mjs", ".cjs"), "javascript")
+        | {".tsx": "typescriptreact", ".jsx": "javascriptreact"},
+        (
+            Pass(
+                "node (one pass of the compiler's checker)",
+                "node-typescript",
+                checker.lacks,
+                checker.answers,
+            ),
+        ),
+        ("tsconfig.json", "jsconfig.json", "package.json"),
+        "no tsconfig.json and no package.json: no file is the first, and no name is exported",
+        "scip-typescript",
+        "npm",
+        npm_package,
     ),
 )
 
@@ -90,14 +183,20 @@ def language_of(path: str) -> Optional[tuple[Language, str]]:
     return None
 
 
-def installed(language: Language, line: str = "") -> ServerKind:
-    """The server that is asked of a language: its own, or the one that a line calls. Raises BadCall
-    where that isn't installed."""
-    server = language.server._replace(line=line, is_diagnosing=False) if line else language.server
-    program = next(iter(shlex.split(server.line)), "")
-    if not shutil.which(program):
-        package = "" if line else f" (Debian's {server.package})"
-        raise BadCall(
-            f"{language.name} would be asked of {program}, which isn't installed{package}"
-        )
-    return server
+def installed(language: Language, line: str = "") -> Way:
+    """What answers of a language: the first of its own that's installed, or the server that a line
+    calls. Raises BadCall where there's none."""
+    try:
+        if line and not shlex.split(line):
+            raise ValueError("no program is named")
+    except ValueError as fault:
+        raise BadCall(f"--server {line!r}: {fault}") from None
+    known = {way.line.split()[0]: way for way in language.ways if isinstance(way, ServerKind)}
+    given = known.get(line, ServerKind(line)) if line else None
+    ways = (given,) if given else language.ways
+    for way in ways:
+        if not way.lacks():
+            return way
+    lacks = ways[0].lacks()
+    package = f" (Debian's {ways[0].package})" if ways[0].package else ""
+    raise BadCall(f"{language.name} would be asked of {lacks}, which isn't installed{package}")

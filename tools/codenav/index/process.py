@@ -1,44 +1,52 @@
 """One process of a language server: its messages, the memory that it takes, and its end, which is
 that of all that it started."""
 
+import errno
 import json
 import os
 import queue
 import shlex
 import signal
 import subprocess
+import tempfile
 import threading
 import time
 from contextlib import suppress
-from typing import Any, BinaryIO, NamedTuple, Optional, cast
+from typing import Any, BinaryIO, Optional, cast
 
 from codenav.faults import BadCall
+from codenav.files import of_file
+from codenav.index.given import Given
 from codenav.lsp.jsonrpc import Fault, Message, message_of, read_body, write_message
 
 LOOK_SECONDS = 0.5
 END_SECONDS = 5
 PAGE_BYTES = os.sysconf("SC_PAGE_SIZE")
-
-
-class Limits(NamedTuple):
-    """For so many seconds a server may say nothing while it's asked, and so many it may take in all;
-    it may take so many megabytes of memory, and is asked so many questions at a time."""
-
-    patience: float = 60.0
-    seconds: float = 3600.0
-    megabytes: int = 8192
-    window: int = 64
+LEAST_BYTES = 16 << 20
+"""Of room for a server's own files: without it some say nothing any more."""
 
 
 class Lost(Exception):
     """The process is of no more use; the text says why."""
 
 
-class Process:
-    """A language server that runs in a folder. What it says on its standard error goes to a log."""
+def need_room(folder: str) -> None:
+    """Raises OSError where there's no room for a server's files."""
+    with of_file(tempfile.gettempdir()), tempfile.TemporaryFile(dir=folder) as file:
+        try:
+            os.posix_fallocate(file.fileno(), 0, LEAST_BYTES)
+        except OSError as fault:
+            if fault.errno in (errno.ENOSPC, errno.EDQUOT):
+                raise
 
-    def __init__(self, line: str, folder: str, limits: Limits, log: BinaryIO) -> None:
-        self.limits = limits
+
+class Process:
+    """A language server that runs in a folder. What it says on its standard error goes to a log, and
+    its own files to the folder for those of the call."""
+
+    def __init__(self, line: str, given: Given, log: BinaryIO) -> None:
+        need_room(given.work)
+        self.limits = given.limits
         self.inbox: queue.SimpleQueue[Optional[Message]] = queue.SimpleQueue()
         self.outbox: queue.SimpleQueue[Optional[bytes]] = queue.SimpleQueue()
         try:
@@ -47,7 +55,8 @@ class Process:
                 stdin=subprocess.PIPE,
                 stdout=subprocess.PIPE,
                 stderr=log,
-                cwd=folder,
+                cwd=given.folder,
+                env={**os.environ, "TMPDIR": given.work},
                 start_new_session=True,
             )
         except OSError as fault:

@@ -10,10 +10,11 @@ from contextlib import contextmanager
 from typing import IO, Iterable, Iterator, Optional
 
 from codenav.faults import BadCall
-from codenav.limits import MOST_BODY_BYTES, MOST_TAG_LINES
+from codenav.limits import MOST_BODY_BYTES, MOST_TAG_BYTES, MOST_TAG_LINES
 from codenav.program import end_with_parent
+from codenav.records import line_of
 
-MOST_LINE_BYTES = 65_536
+RECORD_BYTES = len(line_of("0" * 64))
 CONTROLS = re.compile(rb"[\x00-\x08\x0b-\x1f\x7f]")
 LEFT_OUT = {
     "T01": "longer than 65536 bytes",
@@ -42,7 +43,7 @@ def files_of(folder: str, *kinds: str) -> Iterator[bytes]:
         names = walked(os.fsencode(folder))
     for name in names:
         path = os.path.join(os.fsencode(folder), name)
-        if b"\n" not in name and os.path.isfile(path) and not os.path.islink(path):
+        if os.path.isfile(path) and not os.path.islink(path):
             yield name
 
 
@@ -57,7 +58,7 @@ def walked(folder: bytes) -> Iterator[bytes]:
 def fault_of(line: bytes, number: int, written: int) -> Optional[str]:
     """The code for which the server refuses a line that would be written as this number after so
     many bytes; None where there is none."""
-    if len(line) > MOST_LINE_BYTES:
+    if len(line) > MOST_TAG_BYTES:
         return "T01"
     try:
         line.decode()
@@ -96,19 +97,24 @@ def tagged(
     folder: str, files: Iterable[bytes], path: str, is_cut: bool = False
 ) -> tuple[int, Counter[str]]:
     """Writes the tags file of files of a checkout; answers how many lines it has, and how many were left
-    out, by the server's codes. One that's cut afterwards may be larger than what the server takes.
+    out, by the server's codes. A record fits behind them; one that's cut afterwards may be larger
+    than what the server takes.
 
     Files are named from `./` on, which no option begins with; and no options of the checkout's
     count.
     """
     count, written, left_out = 0, 0, Counter[str]()
     with tempfile.TemporaryFile() as names, open(path, "wb") as out:
-        names.writelines(b"./" + name + b"\n" for name in files)
+        for name in files:
+            if b"\n" in name:
+                left_out["T03"] += 1
+            else:
+                names.write(b"./" + name + b"\n")
         names.seek(0)
         with ctags(folder, names) as run:
             for line in run.stdout or ():
                 line = line.removesuffix(b"\n").replace(b"\t./", b"\t", 1)
-                code = fault_of(line, *((0, 0) if is_cut else (count + 1, written)))
+                code = fault_of(line, *((0, 0) if is_cut else (count + 2, written + RECORD_BYTES)))
                 if code is not None:
                     left_out[code] += 1
                     continue

@@ -4,7 +4,7 @@ from collections import defaultdict
 from typing import IO, Any, Iterable, Optional
 
 from codenav.dumps.scip.elements import Writer
-from codenav.index.asked import Place
+from codenav.index.answers import Place
 from codenav.index.grouped import Grouped
 from codenav.index.languages import language_of
 from codenav.index.monikers import Monikers
@@ -20,7 +20,6 @@ class DumpWriter(Writer):
     def __init__(self, out: IO[bytes], grouped: Grouped, monikers: Monikers, notes: Notes) -> None:
         super().__init__(out)
         self.grouped, self.monikers, self.notes = grouped, monikers, notes
-        self.tags = grouped.tags()
         self.ranges, self.documents = dict[Place, int](), dict[str, int]()
         self.sets, self.joints = dict[Place, Sets](), dict[tuple[Place, ...], int]()
         self.hovers: dict[str, int] = {}
@@ -39,7 +38,7 @@ class DumpWriter(Writer):
         for place in self.ranges:
             self.lead(place)
         for symbol, (_, references) in self.sets.items():
-            own = [symbol, *self.grouped.declared[symbol]]
+            own = [symbol, *self.grouped.further[symbol], *self.grouped.declared[symbol]]
             self.put_items(references, own, "definitions")
             self.put_items(references, self.grouped.uses[symbol], "references")
 
@@ -47,10 +46,15 @@ class DumpWriter(Writer):
         """Writes documents and their ranges: the words that lead somewhere, and what is led to."""
         by_uri: dict[str, set[Place]] = {uri: set() for uri in uris}
         grouped = self.grouped
-        words = grouped.found.implementations
-        implemented = [place for word in words for place in grouped.implementing(word)]
-        for place in [*grouped.leads, *grouped.symbols, *implemented]:
-            if not self.monikers.is_elsewhere(place.uri):
+        implemented = [
+            place
+            for symbol in grouped.found.implementations
+            for place in grouped.implementing(symbol)
+        ]
+        several = [*grouped.declared.values(), *grouped.further.values()]
+        more = [place for places in several for place in places]
+        for place in [*grouped.leads, *grouped.symbols, *implemented, *more]:
+            if not self.monikers.packages.is_elsewhere(place.uri):
                 by_uri.setdefault(place.uri, set()).add(place)
         for uri, places in by_uri.items():
             found = language_of(uri)
@@ -119,6 +123,8 @@ class DumpWriter(Writer):
             self.edge("textDocument/references", own, references)
             shard = min(self.documents.values())
             self.items(references, [part[1] for part in parts], shard, "referenceResults")
+            for head in heads[1:]:
+                self.moniker(own, head)
         return self.joints[heads]
 
     def set_of(self, symbol: Place) -> Sets:
@@ -127,12 +133,10 @@ class DumpWriter(Writer):
             own, references = self.vertex("resultSet"), self.vertex("referenceResult")
             self.sets[symbol] = own, references
             self.edge("textDocument/references", own, references)
-            self.listed("definition", own, [symbol])
+            self.listed("definition", own, [symbol, *self.grouped.further[symbol]])
             self.listed("declaration", own, self.grouped.declared[symbol])
-            found = self.grouped.found
-            word = self.tags.get(symbol, symbol)
-            self.listed("implementation", own, self.grouped.implementing(word))
-            self.hover(own, found.hovers.get(word))
+            self.listed("implementation", own, self.grouped.implementing(symbol))
+            self.hover(own, self.grouped.found.hovers.get(symbol))
             self.moniker(own, symbol)
         return self.sets[symbol]
 

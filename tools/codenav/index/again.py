@@ -1,0 +1,103 @@
+"""Which documents a server is asked of again where some of a folder changed."""
+
+import os
+import re
+from collections import Counter, defaultdict
+from typing import Callable, Iterable, Mapping
+
+from codenav.index.answers import At, Name
+from codenav.index.given import Document
+from codenav.index.kept import Kept, Known
+
+INCLUDE = re.compile(
+    r'^[ \t]*#[ \t]*(?:include|include_next|import)[ \t]*[<"]([^>"\n]+)', re.MULTILINE
+)
+WORD = re.compile(r"[^\W\d]\w*")
+PLAIN = {12, 13, 14}
+"""Kinds of symbols that no type has: function, variable, constant."""
+
+
+def includes(documents: Iterable[Document]) -> dict[str, set[str]]:
+    """The names of files that documents include, without their folders."""
+    return {
+        one.uri: {os.path.basename(name) for name in INCLUDE.findall(one.text)} for one in documents
+    }
+
+
+def including(documents: Iterable[Document], moved: set[str]) -> set[str]:
+    """The documents that include some file, over any number of files, by their names."""
+    by_name, found = defaultdict[str, list[str]](list), set[str]()
+    for uri, names in includes(documents).items():
+        for name in names:
+            by_name[name].append(uri)
+    rest = list(moved)
+    while rest:
+        for uri in by_name.pop(os.path.basename(rest.pop()), ()):
+            if uri not in found:
+                found.add(uri)
+                rest.append(uri)
+    return found
+
+
+def leading(kept: Kept, moved: set[str]) -> set[str]:
+    """The documents that lead into others, by what is kept."""
+    return {
+        uri
+        for uri, known in kept.documents.items()
+        if any(to.uri in moved for places in known.leads.values() for to in places)
+    }
+
+
+def leading_far(kept: Kept, moved: set[str]) -> set[str]:
+    """The documents that lead into others, over any number of files."""
+    into = defaultdict[str, set[str]](set)
+    for uri, known in kept.documents.items():
+        for to in {place.uri for places in known.leads.values() for place in places}:
+            into[to].add(uri)
+    found, rest = set[str](), list(moved)
+    while rest:
+        for uri in into.pop(rest.pop(), ()):
+            if uri not in found:
+                found.add(uri)
+                rest.append(uri)
+    return found
+
+
+def by_includes(kept: Kept, documents: list[Document], moved: set[str]) -> set[str]:
+    """What depends on documents where all that a file knows is what it includes."""
+    return including(documents, moved) | leading(kept, moved)
+
+
+def by_leads(kept: Kept, documents: list[Document], moved: set[str]) -> set[str]:
+    """What depends on documents where an answer goes on from file to file."""
+    return leading_far(kept, moved)
+
+
+Depends = Callable[[Kept, list[Document], set[str]], set[str]]
+
+
+def declared(names: Mapping[At, Name], kept: Kept, uris: Iterable[str]) -> tuple[set[str], bool]:
+    """Names that documents declare, but not in the same way before, without their numbers; and whether
+    what types have differs."""
+    words, differs = set[str](), False
+    by_uri = defaultdict[str, Counter[Name]](Counter)
+    for at, name in names.items():
+        by_uri[at[0]][name] += 1
+    for uri in uris:
+        before = Counter(kept.documents.get(uri, Known("")).names.values())
+        words.update(word for one in by_uri[uri] - before for word in WORD.findall(one.name))
+        own = [
+            Counter(
+                one._replace(size=(0, 0)) if one.kind == 6 else one
+                for one in many.elements()
+                if one.kind not in PLAIN
+            )
+            for many in (by_uri[uri], before)
+        ]
+        differs = differs or own[0] != own[1]
+    return words, differs
+
+
+def words_of(text: str) -> set[str]:
+    """The words of a text that may be names."""
+    return set(WORD.findall(text))

@@ -1,0 +1,173 @@
+"""What servers answered of a folder before, in a file beside its dump."""
+
+import hashlib
+import json
+import os
+from dataclasses import dataclass, field
+from typing import Any, BinaryIO, Iterable, Iterator, Optional
+
+from codenav import VERSION
+from codenav.faults import BadCall
+from codenav.index.answers import Answers, At, Name, Place
+from codenav.index.packages import text_in
+from codenav.texts.places import path_of
+
+FORM = f"codenav index {VERSION}, 1"
+
+
+@dataclass(slots=True)
+class Known:
+    """What was answered of a document: the digest of its text, its words and where they lead, the names
+    that it declares, and the errors that the server found in it."""
+
+    digest: str
+    words: list[Place] = field(default_factory=list)
+    leads: dict[Place, list[Place]] = field(default_factory=dict)
+    names: dict[At, Name] = field(default_factory=dict)
+    errors: list[str] = field(default_factory=list)
+
+
+@dataclass(slots=True)
+class Asked:
+    """What was answered of a symbol, and the word that it was asked at."""
+
+    word: Place
+    hover: Optional[Any] = None
+    implementations: list[Place] = field(default_factory=list)
+
+
+@dataclass(slots=True)
+class Kept:
+    """What a server answered, which holds as long as its key is the same: of documents of the folder, of
+    those outside by the stamps of their files, and of symbols."""
+
+    key: str = ""
+    documents: dict[str, Known] = field(default_factory=dict)
+    outside: dict[str, Known] = field(default_factory=dict)
+    symbols: dict[Place, Asked] = field(default_factory=dict)
+
+    def add_to(self, found: Answers, uris: Iterable[str]) -> None:
+        """Adds to answers what is known of documents."""
+        for uri in uris:
+            known = self.documents[uri]
+            found.words |= {word.at: word for word in known.words}
+            found.leads |= known.leads
+            found.names |= known.names
+            found.empty += len(known.words) - len(known.leads)
+
+
+def digest_of(text: str) -> str:
+    """The digest of a text."""
+    return hashlib.sha256(text.encode("utf-8", "surrogatepass")).hexdigest()
+
+
+def stamp_of(path: Optional[str]) -> str:
+    """What is known of a file without reading it; empty where it isn't there."""
+    try:
+        found = os.stat(path or "")
+    except OSError:
+        return ""
+    return f"{found.st_mtime_ns} {found.st_size}"
+
+
+def key_of(folder: str, program: str, manifests: Iterable[str], *more: Any) -> str:
+    """By what answers hold: the program, the manifests, and how it's asked."""
+    texts = [(name, text_in(folder, name)) for name in manifests]
+    path = os.path.realpath(program)
+    return digest_of(json.dumps([FORM, path, stamp_of(path), texts, more]))
+
+
+class Written:
+    """A file of what is kept, on the way: an address is written once, and then has a number."""
+
+    def __init__(self, out: BinaryIO) -> None:
+        self.out, self.uris = out, dict[str, int]()
+        self.line("form", FORM)
+
+    def line(self, *parts: Any) -> None:
+        """Writes a line."""
+        self.out.write(json.dumps(parts, separators=(",", ":")).encode() + b"\n")
+
+    def place(self, place: Place) -> list[int]:
+        """A place by its numbers."""
+        if place.uri not in self.uris:
+            self.uris[place.uri] = len(self.uris)
+            self.line("uri", place.uri)
+        return [self.uris[place.uri], *place[1:]]
+
+    def write(self, language: str, kept: Kept) -> None:
+        """Writes what is kept of a language."""
+        self.line("language", language, kept.key)
+        for kind, documents in ("document", kept.documents), ("outside", kept.outside):
+            for uri, one in documents.items():
+                words = [word[1:] for word in one.words]
+                leads = [
+                    [list(word[1:]), [self.place(to) for to in places]]
+                    for word, places in one.leads.items()
+                ]
+                names = [[*at[1:], *name] for at, name in one.names.items()]
+                self.line(kind, uri, one.digest, words, leads, names, one.errors)
+        for symbol, asked in kept.symbols.items():
+            places = [self.place(to) for to in asked.implementations]
+            own, word = self.place(symbol), self.place(asked.word)
+            self.line("symbol", own, word, asked.hover, places)
+
+
+def read(path: str) -> dict[str, Kept]:
+    """What a file has, by the names of languages; nothing where there's none, or one of another form.
+    Raises BadCall where it's no such file."""
+    try:
+        with open(path, "rb") as file:
+            return dict(lines_of(file))
+    except FileNotFoundError:
+        return {}
+    except (OSError, ValueError, TypeError, LookupError) as fault:
+        raise BadCall(f"{path}: it's no file of what is kept: {fault}") from None
+
+
+def lines_of(file: BinaryIO) -> Iterator[tuple[str, Kept]]:
+    """What a file has, language by language."""
+    uris, kept, language = list[str](), Kept(), ""
+
+    def place(numbers: list[int]) -> Place:
+        return Place(uris[numbers[0]], *numbers[1:])
+
+    for number, line in enumerate(file):
+        kind, *parts = json.loads(line)
+        if number == 0 and (kind != "form" or parts != [FORM]):
+            if kind != "form":
+                raise ValueError("it has another first line")
+            return
+        if kind == "uri":
+            uris += parts
+        elif kind == "language":
+            if language:
+                yield language, kept
+            language, kept = parts[0], Kept(parts[1])
+        elif kind == "symbol":
+            own, word, hover, places = parts
+            kept.symbols[place(own)] = Asked(place(word), hover, list(map(place, places)))
+        elif kind != "form":
+            uri, digest, words, leads, names, errors = parts
+            documents = kept.documents if kind == "document" else kept.outside
+            documents[uri] = Known(
+                digest,
+                [Place(uri, *word) for word in words],
+                {Place(uri, *word): list(map(place, places)) for word, places in leads},
+                {
+                    (uri, at, start): Name(tuple(around), name, number, (size[0], size[1]), detail)
+                    for at, start, around, name, number, size, detail in names
+                },
+                errors,
+            )
+    if language:
+        yield language, kept
+
+
+def outside_of(uris: Iterable[str], found: Answers) -> dict[str, Known]:
+    """What is kept of documents outside."""
+    known = {uri: Known(stamp_of(path_of(uri, []))) for uri in uris}
+    for at, name in found.names.items():
+        if at[0] in known:
+            known[at[0]].names[at] = name
+    return known

@@ -1,0 +1,1 @@
+"""TypeScript and JavaScript, by one pass of the compiler's checker."""
