@@ -127,6 +127,7 @@ def rendered(text: str, front: Front, servers: list[str], limits: tuple[str, str
         "/etc/nginx/codenav/": f"{front.folder}/codenav/",
         "/var/log/nginx/codenav.log": f"{front.folder}/access.log",
         "/var/lib/codenav/side": f"{front.folder}/side",
+        "/run/codenav/codenav.prom": f"{front.folder}/codenav.prom",
         "/run/haproxy/codenav.sock": f"{front.folder}/haproxy.sock",
         "listen 443 ssl": f"listen 127.0.0.1:{front.port} ssl",
         "listen [::]:443 ssl": f"listen [::1]:{front.port} ssl",

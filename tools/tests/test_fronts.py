@@ -8,11 +8,13 @@ import re
 import shutil
 import signal
 import socket
+import ssl
 import subprocess
 import tempfile
 import threading
 import time
 import unittest
+import warnings
 from contextlib import ExitStack, suppress
 from http.client import HTTPException
 from typing import Callable, ClassVar, Optional
@@ -25,6 +27,7 @@ from tests.test_uploads import DUMP
 
 H04 = {"fault": "H04", "text": "body too large"}
 MOST_BYTES = 33_554_432
+SECONDS = 60
 REPLY = re.compile(rb"HTTP/1\.1 (\d+)[^\n]*\r\n(?:[^\n]*\r\n)*?Content-Length: (\d+)\r\n\r\n")
 HOVER = "/projects/app/hover?uri=file:///a&line=0&character=0"
 
@@ -147,8 +150,8 @@ class OfFront:
         def test_rights(self) -> None:
             """Who may read and write what, by the rights that are installed and one that's of one
             project."""
-            own = r'"~^alice write app$" yes;'
-            front = self.fresh([self.own_server()], rights=lambda text: f"{text}{own}\n")
+            own = '"~^alice write app$" yes;\n"~^alice write web-" yes;\n'
+            front = self.fresh([self.own_server()], rights=lambda text: text + own)
             body = (DUMP % "one").encode()
             for login, project, status in (
                 (None, "app", 401),
@@ -158,6 +161,8 @@ class OfFront:
                 (OWNER, "app", 200),
                 (OWNER, "app-parts", 200),
                 (OWNER, "appendix", 403),
+                (OWNER, "web-shop", 200),
+                (OWNER, "web", 403),
                 ("alice:wrong", "app", 401),
                 ("nobody:secret", "app", 403),
                 (":secret", "app", 401),
@@ -237,12 +242,74 @@ class OfFront:
                 self.assertIn("fault", json.loads(body), path[:9])
 
         def test_rate(self) -> None:
-            front = self.fresh([NOBODY], ("rate=1r/m", "burst=1"))
-            front.ask("GET", "/health")
-            found = [front.ask("PUT", "/-", b"", None) for _ in range(3)]
-            self.assertEqual(found[-1][0], 429)
-            self.assertEqual(json.loads(found[-1][2])["text"], "too many requests")
-            self.assertEqual(found[-1][1]["Retry-After"], "1")
+            """What's over the limit is refused, also of who may not do it, and isn't logged."""
+            for login in None, READER:
+                front = self.fresh([NOBODY], ("rate=1r/m", "burst=1"))
+                front.ask("GET", "/health")
+                found = [front.ask("PUT", "/-", b"", login) for _ in range(9)]
+                self.assertEqual(found[-1][0], 429)
+                self.assertEqual(json.loads(found[-1][2])["text"], "too many requests")
+                self.assertEqual(found[-1][1]["Retry-After"], "1")
+                self.until(lambda: len(self.logged(front)) > 2)
+                refused = 403 if login else 401
+                said = [line["status"] for line in self.logged(front)]
+                self.assertEqual((said[0], set(said[1:])), (503, {refused}))
+
+        def until(self, is_so: Callable[[], bool]) -> None:
+            """Waits for something."""
+            stop = time.monotonic() + SECONDS
+            while not is_so():
+                self.assertLess(time.monotonic(), stop)
+                time.sleep(0.05)
+
+        def logged(self, front: Front) -> list[dict[str, object]]:
+            """The lines of the front's log."""
+            with open(f"{front.folder}/access.log", encoding="utf-8") as log:
+                return [json.loads(line) for line in log]
+
+        def test_where_the_time_went(self) -> None:
+            """The log says for how long a request waited for the server, and how long it took."""
+            slow = self.enterContext(socket.create_server(("127.0.0.1", 0)))
+
+            def serve() -> None:
+                for _ in range(2):
+                    client = slow.accept()[0]
+                    with client, suppress(OSError):
+                        client.recv(65536)
+                        time.sleep(1)
+                        client.sendall(b"HTTP/1.1 200 OK\r\nContent-Length: 2\r\n\r\n{}")
+
+            threading.Thread(target=serve, daemon=True).start()
+            front = self.fresh([f"127.0.0.1:{slow.getsockname()[1]}"])
+            self.assertEqual(front.ask("GET", "/projects/own/hover")[2], b"{}")
+            self.until(lambda: bool(self.logged(front)))
+            (line,) = self.logged(front)
+            self.assertEqual((line["kind"], line["project"]), ("hover", "own"))
+            queue, server = (int(str(line[name])) for name in ("queue_ms", "server_ms"))
+            self.assertGreaterEqual(server, 900)
+            self.assertLessEqual(queue + server, float(str(line["seconds"])) * 1000 + 50)
+
+        def test_tls_and_ipv6(self) -> None:
+            """TLS 1.2 with forward secrecy, and 1.3; by IPv6 too."""
+            for version, ciphers, is_taken in (
+                (ssl.TLSVersion.TLSv1_3, "", True),
+                (ssl.TLSVersion.TLSv1_2, "ECDHE+AESGCM", True),
+                (ssl.TLSVersion.TLSv1_2, "AES256-GCM-SHA384:AES256-SHA", False),
+                (ssl.TLSVersion.TLSv1_1, "ALL:@SECLEVEL=0", False),
+            ):
+                context = self.front.context()
+                with warnings.catch_warnings(action="ignore"):
+                    context.minimum_version = context.maximum_version = version
+                if ciphers:
+                    context.set_ciphers(ciphers)
+                for host in "127.0.0.1", "::1":
+                    with socket.create_connection((host, self.front.port), SECONDS) as peer:
+                        try:
+                            with context.wrap_socket(peer, server_hostname="127.0.0.1") as own:
+                                found = own.version() is not None
+                        except (ssl.SSLError, ConnectionError):
+                            found = False
+                    self.assertEqual(found, is_taken, (version, ciphers, host))
 
         def test_lost_replies(self) -> None:
             """A server that acts, and is gone before it answers, is asked again; the upload acts
@@ -376,13 +443,6 @@ class Lua(OfFront.Tests):
         self.until(lambda: front.local_answer("/state").status == 200)
         self.assertEqual(self.asked(front, "/state")["writes"], 0)
 
-    def until(self, is_so: Callable[[], bool]) -> None:
-        """Waits for something."""
-        stop = time.monotonic() + 20
-        while not is_so():
-            self.assertLess(time.monotonic(), stop)
-            time.sleep(0.05)
-
     def test_what_is_logged(self) -> None:
         """While the server is away, as Debian's nginx logs, a few lines say so, however many wait;
         of a refused upload it's known by whom it came, why it was refused, and how long the server
@@ -406,13 +466,50 @@ class Lua(OfFront.Tests):
         self.assertIn("codenav: no whole reply, so sent again: /projects", lines)
         self.until(lambda: any(line["method"] == "PUT" for line in self.logged(front)))
         line = self.logged(front)[-1]
-        self.assertEqual((line["user"], line["status"], line["fault"]), ("ci", 422, "L02"))
-        self.assertRegex(str(line["server_seconds"]), r"^\d+\.\d{3}$")
+        wanted = {"user": "ci", "kind": "lsif", "project": "app", "status": 422, "fault": "L02"}
+        self.assertEqual({name: line[name] for name in wanted}, wanted)
 
-    def logged(self, front: Front) -> list[dict[str, object]]:
-        """The lines of the front's log."""
-        with open(f"{front.folder}/access.log", encoding="utf-8") as log:
-            return [json.loads(line) for line in log]
+    def test_measures(self) -> None:
+        """Requests by what they ask for and by status, uploads by the fault they were refused for,
+        seconds, and what the service says of itself."""
+        front = self.fresh([self.own_server()])
+        with open(f"{front.folder}/codenav.prom", "w", encoding="utf-8") as out:
+            out.write("codenav_turns_total 7\n")
+        for method, path, body in (
+            ("PUT", "/projects/app/lsif?key=k", b"x"),
+            ("PUT", "/projects/app/lsif?key=l", (DUMP % "one").encode()),
+            ("GET", HOVER, None),
+            ("GET", HOVER, None),
+            ("GET", "/names?name=a", None),
+            ("DELETE", "/projects/app?key=k", None),
+            ("GET", "/projects", None),
+            ("GET", "/none", None),
+        ):
+            front.ask(method, path, body)
+        wanted = {
+            'codenav_requests_total{method="PUT",kind="lsif",status="422"}': 1,
+            'codenav_requests_total{method="PUT",kind="lsif",status="200"}': 1,
+            'codenav_faults_total{kind="lsif",fault="L02"}': 1,
+            'codenav_requests_total{method="GET",kind="hover",status="200"}': 2,
+            'codenav_requests_total{method="GET",kind="names",status="200"}': 1,
+            'codenav_requests_total{method="DELETE",kind="project",status="200"}': 1,
+            'codenav_requests_total{method="GET",kind="projects",status="200"}': 1,
+            'codenav_requests_total{method="GET",kind="other",status="404"}': 1,
+            'codenav_faults_total{kind="other",fault="H06"}': 1,
+            "codenav_turns_total": 7,
+        }
+        self.until(lambda: wanted.items() <= self.measured(front).items())
+        taken = self.measured(front)
+        seconds = [
+            taken[f"codenav_{name}_seconds_total"] for name in ("server", "queue", "request")
+        ]
+        self.assertGreater(seconds[0], 0)
+        self.assertLessEqual(seconds[0] + seconds[1], seconds[2] + 0.1)
+
+    def measured(self, front: Front) -> dict[str, float]:
+        """What the front says of itself, as Prometheus reads it."""
+        lines = front.local_answer("/metrics").body.decode().splitlines()
+        return {name: float(value) for name, _, value in (line.rpartition(" ") for line in lines)}
 
     def test_several_servers(self) -> None:
         """Each project is on one of the servers, and found there by its path and by its name; the

@@ -20,7 +20,8 @@ from codenav.program import PACKAGED, Program, free_port
 from tests.servers import NOT_BUILT, TOP, built_program, command
 
 PACKAGING = os.path.join(TOP, "packaging")
-UNITS = ("service", "codenav-backup.service", "codenav-health.service")
+UNITS = ("service", "codenav-backup.service", "codenav-health.service", "codenav-browse.service")
+ALERT = "codenav-alert@.service"
 MOST_EXPOSED = 1.5
 SCRIPTS = {
     "bash": ["build-deb", "build-tar", "try-booted", "try-in-chroot", "stand-in-systemctl"],
@@ -140,14 +141,35 @@ class Files(unittest.TestCase):
             called = re.findall(r"/usr/bin/codenav ([a-z-]+)", unit["Service"]["ExecStart"])
             self.assertEqual([name for name in called if name in TOOLS], called, name)
             self.assertEqual(len(called), 1)
+            self.assertEqual(unit["Unit"]["OnFailure"], ALERT.replace("@", "@%n"))
+
+    def test_an_alert(self) -> None:
+        """The line of the settings gets the state of the unit that failed, and its name."""
+        unit = Unit(strict=False, interpolation=None)
+        unit.read(os.path.join(PACKAGING, "debian", ALERT))
+        self.assertIn(f"debian/{ALERT}", text_of("packaging", "debian", "rules"))
+        words = shlex.split(unit["Service"]["ExecStart"])
+        with tempfile.TemporaryDirectory() as folder:
+            with open(f"{folder}/systemctl", "w", encoding="utf-8") as out:
+                out.write('#!/bin/sh\necho "state of $*"\n')
+            os.chmod(f"{folder}/systemctl", 0o755)
+            own = {"PATH": f"{folder}:{os.environ['PATH']}", "CODENAV_UNIT": "a.service"}
+            own[
+                "CODENAV_ALERT"
+            ] = f'echo "$CODENAV_UNIT failed" >"{folder}/said"; cat >>"{folder}/said"'
+            subprocess.run(words, env={**os.environ, **own}, check=True)
+            said = text_of(f"{folder}/said").splitlines()
+        self.assertEqual(said[0], "a.service failed")
+        self.assertRegex(said[1], "^state of status .* a.service$")
 
     def test_settings(self) -> None:
         """What the settings' file names the unit, runit's service and the page know."""
         unit = text_of("packaging", "debian", "codenav.service")
         run = text_of("packaging", "runit", "codenav", "run")
         names = re.findall(r"#(CODENAV_\w+)=", text_of("packaging", "debian", "codenav.default"))
-        self.assertEqual(len(names), 3)
-        for name in names:
+        self.assertEqual(names[3:], ["CODENAV_ALERT"])
+        self.assertIn(f'"{names[3]}=', text_of("packaging", "debian", ALERT))
+        for name in names[:3]:
             self.assertIn(f"${{{name}}}", unit)
             self.assertIn(f"${{{name}:-", run)
 
@@ -195,9 +217,9 @@ class Installed(unittest.TestCase):
         with open(f"{self.folder}/{name}", "w", encoding="utf-8") as out:
             out.write(text)
 
-    def install(self, kind: str) -> list[str]:
+    def install(self, *kind: str) -> list[str]:
         """The lines that it prints, without the folder."""
-        words = ["sh", f"{self.folder}/front/install", kind]
+        words = ["sh", f"{self.folder}/front/install", *kind]
         done = subprocess.run(words, check=True, capture_output=True, text=True)
         self.assertEqual(done.stderr, "")
         return done.stdout.replace(f"{self.folder}/", "").splitlines()
@@ -209,6 +231,7 @@ class Installed(unittest.TestCase):
             said[0], "install: haproxy/haproxy.cfg of before is haproxy/haproxy.cfg.before"
         )
         self.assertEqual(self.text("haproxy/haproxy.cfg.before"), "# of the site\n")
+        self.assertEqual(os.stat(f"{self.folder}/log/codenav.log").st_mode & 0o777, 0o640)
         self.assertRegex(said[1], "^ci:[0-9a-f]{32}$")
         own = ["nginx/codenav/http.conf", "nginx/codenav/rights", "haproxy/haproxy.cfg"]
         own += ["nginx/conf.d/codenav.conf"]
@@ -224,6 +247,18 @@ class Installed(unittest.TestCase):
         self.assertIn("# newer\n", self.text(f"{name}.new"))
         for name in [*own, "nginx/codenav/users"]:
             self.assertEqual(self.text(name).count("# changed\n"), 1, name)
+
+    def test_pages(self) -> None:
+        """Those of codenav browse come behind the front that's there, by a host name."""
+        self.install("lua")
+        self.assertEqual(self.install("pages", "code.example"), [])
+        # nginx reads them in this order, and the first one answers other names
+        names = sorted(os.listdir(f"{self.folder}/nginx/conf.d"))
+        self.assertEqual(names, ["codenav.conf", "codenav_pages.conf"])
+        made = self.text(f"nginx/conf.d/{names[1]}")
+        self.assertIn("\n    server_name code.example;\n", made)
+        words = ["sh", f"{self.folder}/front/install", "pages"]
+        self.assertEqual(subprocess.run(words, capture_output=True, check=False).returncode, 2)
 
     def test_the_other_front(self) -> None:
         """A front that wasn't changed is replaced by the other one."""

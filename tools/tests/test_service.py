@@ -1,29 +1,37 @@
 """Tests of what keeps a server running, over real servers: starts, refusals, copies, a copy put
 back, turns, and each of them killed in between."""
 
+import errno
 import os
 import shutil
 import signal
+import socket
 import sqlite3
 import subprocess
 import tempfile
 import threading
 import time
 import unittest
-from contextlib import suppress
-from typing import Callable
+from contextlib import AbstractContextManager, nullcontext, suppress
+from typing import Any, Callable
+from unittest import mock
 
 from codenav.client.http import address, request
-from codenav.program import free_port
-from codenav.service.copies import NAME
-from codenav.service.folder import Serving, database_at, serving_of, side_of
+from codenav.program import Program, free_port
+from codenav.service import digests
+from codenav.service.copies import NAME, copied_now, put
+from codenav.service.digests import files_of
+from codenav.service.folder import Serving, database_at, locked, serving_of, side_of, use
+from codenav.service.hung import Watch, worked
+from codenav.service.locks import UNSEEN
+from codenav.service.refusals import Refusal, refusal_by
 from codenav.service.standing import state_of
 from tests.fronts import Front, fronted, lacking
 from tests.servers import command, free_row, program
 from tests.test_fronts import HOVER
 from tests.test_uploads import DUMP
 
-SECONDS = 30
+SECONDS = 60
 TICK = 0.02
 # a user without rights
 NOBODY = 65534
@@ -43,7 +51,7 @@ class OnService(unittest.TestCase):
     """A folder for a service, and how its tools are called."""
 
     def setUp(self) -> None:
-        self.program = program()
+        self.program, self.environment = program(), dict[str, str]()
         self.base = self.enterContext(tempfile.TemporaryDirectory())
         self.folder, self.copies = f"{self.base}/service", f"{self.base}/copies"
         os.mkdir(self.folder)
@@ -56,9 +64,10 @@ class OnService(unittest.TestCase):
         self, tool: str, *words: str, is_slow: bool = False, by: tuple[str, ...] = ()
     ) -> "subprocess.Popen[str]":
         """A tool that's called as users do, or by way of another program."""
+        own = {"PYTHONPATH": f"{self.base}/slow"} if is_slow else {}
         process = subprocess.Popen(
             [*by, *command(tool), *words],
-            env={**os.environ, **({"PYTHONPATH": f"{self.base}/slow"} if is_slow else {})},
+            env={**os.environ, **self.environment, **own},
             stdin=subprocess.DEVNULL,
             stdout=subprocess.PIPE,
             stderr=subprocess.PIPE,
@@ -202,6 +211,18 @@ class Starts(OnService):
         _, said = process.communicate(timeout=SECONDS)
         return process.returncode, said
 
+    def test_a_folder_that_is_locked(self) -> None:
+        """That it's locked is said, and the service may be ended; when it's free the server is
+        started."""
+        with locked(self.folder):
+            for _ in range(2):
+                process = self.supervised()
+                self.says(process, f"{self.folder}/lock: another process has it")
+                self.assertEqual(self.ended(process)[0], 0)
+            process = self.supervised()
+            self.says(process, f"{self.folder}/lock: another process has it")
+        self.until(self.answers)
+
     def test_refusals_for_good(self) -> None:
         """A file that a person has to mend ends the service, which says what is to be done."""
         os.mkdir(f"{self.folder}/a", 0o700)
@@ -273,6 +294,146 @@ class Starts(OnService):
         late.cancel()
 
 
+class Watched(OnService):
+    """What a service says to systemd, which stands in as a socket."""
+
+    def setUp(self) -> None:
+        super().setUp()
+        self.heard = self.enterContext(socket.socket(socket.AF_UNIX, socket.SOCK_DGRAM))
+        self.heard.bind(f"{self.base}/heard")
+        self.heard.settimeout(SECONDS)
+
+    def says_next(self, text: str) -> str:
+        """The next of what it says that has a text."""
+        while text not in (said := self.heard.recv(4096).decode()):
+            pass
+        return said
+
+    def test_ready(self) -> None:
+        """It's ready when its server listens, and then goes on; where it waits it says for what,
+        and that it goes on."""
+        self.environment["NOTIFY_SOCKET"] = f"{self.base}/heard"
+        with socket.create_server(("127.0.0.1", self.port)):
+            process = self.supervised()
+            self.assertIn("codenav: cannot listen", self.says_next("STATUS="))
+            self.says_next("WATCHDOG=1")
+        said = self.says_next("READY=1")
+        self.assertIn(f"STATUS=serves {self.folder}/a/index.db after ", said)
+        self.assertTrue(self.answers())
+        self.says_next("WATCHDOG=1")
+        self.assertEqual(self.ended(process)[0], 0)
+
+    def test_a_server_that_hangs(self) -> None:
+        """It's started again."""
+        self.environment["WATCHDOG_USEC"] = "30000000"
+        process = self.service()
+        self.put("one", "k")
+        server = self.known().server
+        os.kill(server, signal.SIGSTOP)
+        self.until(lambda: self.known().server != server and self.answers())
+        self.assertEqual(self.hover(), b'{"contents":"one"}')
+        self.assertIn("nothing was heard of the server for 10 s\n", self.ended(process)[1])
+
+    def test_what_hangs(self) -> None:
+        """A server that answers doesn't, nor one that works, nor one that's copied."""
+        os.close(os.open(f"{self.folder}/lock", os.O_CREAT))
+        with Program(self.program).serve() as server:
+            watch = Watch(self.folder, SECONDS)
+            os.kill(server.pid, signal.SIGSTOP)
+            self.until(lambda: state_of(server.pid) == "T")
+            for is_working, is_copied, hangs in (
+                (False, False, True),
+                (False, True, False),
+                (True, False, False),
+            ):
+                watch.heard = time.monotonic() - 2 * SECONDS
+                watch.work = "" if is_working else worked(server.pid)
+                with locked(self.folder) if is_copied else nullcontext():
+                    self.assertEqual(watch.hangs(server), hangs, (is_working, is_copied))
+            os.kill(server.pid, signal.SIGCONT)
+            watch.heard = time.monotonic() - 2 * SECONDS
+            watch.ask(server.url)
+            self.assertFalse(watch.hangs(server))
+
+    def test_measures(self) -> None:
+        """They're there for all to read, and know the last good copy and the turns."""
+        self.environment["RUNTIME_DIRECTORY"] = self.base
+        self.service()
+        self.put("one", "k")
+        given = ["--program", self.program, self.folder, self.copies]
+        self.assertEqual(self.called("backup", *given)[0], 0)
+        self.assertEqual(self.called("turn", self.folder)[0], 0)
+        self.until(lambda: self.measured().get("codenav_turns_total") == 1)
+        found = self.measured()
+        self.assertEqual(found["codenav_turns_tried_total"], 1)
+        self.assertAlmostEqual(found["codenav_last_copy_timestamp_seconds"], time.time(), delta=600)
+        self.until(lambda: self.measured()["codenav_database_bytes"] == self.size())
+        self.assertEqual(os.stat(f"{self.base}/codenav.prom").st_mode & 0o777, 0o644)
+
+    def size(self) -> int:
+        return sum(map(os.path.getsize, files_of(database_at(self.folder, "a"))))
+
+    def measured(self) -> dict[str, int]:
+        """The measures by their names, where they're written."""
+        path = f"{self.base}/codenav.prom"
+        if not os.path.exists(path):
+            return {}
+        with open(path, encoding="utf-8") as file:
+            pairs = [line.split() for line in file]
+        return {name: int(value) for name, value in pairs}
+
+
+class Refused(unittest.TestCase):
+    """What the system refuses while a side is named, and while a copy is put in its place."""
+
+    def setUp(self) -> None:
+        self.folder = self.enterContext(tempfile.TemporaryDirectory())
+        for name, text in ("a", "old"), ("copy", "new"):
+            os.mkdir(f"{self.folder}/{name}")
+            with open(f"{self.folder}/{name}/index.db", "w", encoding="utf-8") as out:
+                out.write(text)
+
+    def refused(self, name: str, fails: Callable[[str], bool]) -> AbstractContextManager[Any]:
+        """Refuses a call of `os` by EIO, for paths of which that's said."""
+        own = getattr(os, name)
+
+        def call(*words: Any) -> Any:
+            if any(fails(str(word)) for word in words):
+                raise OSError(errno.EIO, os.strerror(errno.EIO), words[-1])
+            return own(*words)
+
+        return mock.patch.object(os, name, call)
+
+    def served(self) -> str:
+        """What the database of the side in use has."""
+        with open(database_at(self.folder, side_of(self.folder)), encoding="utf-8") as file:
+            return file.read()
+
+    def test_naming_a_side(self) -> None:
+        """Where the name doesn't get to the disk it's the one of before."""
+        with self.refused("open", self.folder.__eq__):
+            with self.assertRaises(OSError):
+                use(self.folder, "b")
+        self.assertEqual(side_of(self.folder), "a")
+
+    def test_putting_a_copy(self) -> None:
+        """It's in its place, or the old one is as it was."""
+        for name, fails, text, files in (
+            ("replace", lambda path: path.endswith("/side"), "old", ["a", "copy"]),
+            ("rename", lambda path: path.endswith("/before"), "new", ["a", "b", "copy", "side"]),
+            ("rename", lambda path: False, "new", ["a", "before", "copy", "side"]),
+        ):
+            with self.refused(name, fails), suppress(OSError):
+                put(f"{self.folder}/copy", self.folder)
+            self.assertEqual((self.served(), sorted(os.listdir(self.folder))), (text, files))
+
+    def test_faults_of_the_system(self) -> None:
+        """They're named, and tried again."""
+        for number in errno.ENOSPC, errno.EIO, errno.EACCES, errno.EMFILE:
+            found = refusal_by(OSError(number, os.strerror(number)), self.folder)
+            self.assertEqual(found, Refusal(f"{self.folder}: {os.strerror(number)}", True))
+
+
 class Copies(OnService):
     def backup(self, *words: str, by: tuple[str, ...] = ()) -> tuple[int, str]:
         given = ["--program", self.program, *words, self.folder, self.copies]
@@ -320,6 +481,97 @@ class Copies(OnService):
         self.until(lambda: state_of(server) == "S")
         status, said = self.backup(by=hidden)
         self.assertEqual((status, len(self.copied())), (0, 1), said)
+
+    def test_a_server_that_is_started_all_the_time(self) -> None:
+        """It's copied all the same."""
+        process = self.service()
+        self.put("one", "k")
+        is_over = threading.Event()
+
+        def start() -> None:
+            while not is_over.is_set():
+                process.send_signal(signal.SIGHUP)
+                time.sleep(TICK)
+
+        starting = threading.Thread(target=start)
+        starting.start()
+        try:
+            made = [self.backup() for _ in range(4)]
+        finally:
+            is_over.set()
+            starting.join()
+        self.assertEqual([status for status, _ in made], [0] * 4, made)
+        self.assertEqual(len(self.copied()), 4)
+
+    def test_a_server_that_has_just_ended(self) -> None:
+        """A copy is tried again where the one that had the database can't be seen, or is gone."""
+        self.ended(self.service())
+        with subprocess.Popen(["true"]) as gone:
+            gone.wait()
+        for first in UNSEEN, gone.pid:
+            new = f"{self.base}/{first}"
+            with mock.patch("codenav.service.copies.holder_of", side_effect=[first, None]):
+                copied_now(self.folder, new)
+            self.assertTrue(os.path.isfile(f"{new}/index.db"))
+
+    def test_a_server_that_was_just_started(self) -> None:
+        """It stands too, though it hasn't opened the database yet."""
+        self.ended(self.service())
+        words = ["--program", self.program, self.folder, self.copies]
+        self.program = f"{self.base}/waiting"
+        with open(self.program, "w", encoding="utf-8") as script:
+            script.write("#!/usr/bin/python3\nimport time\ntime.sleep(600)\n")
+        os.chmod(self.program, 0o700)
+        self.supervised()
+        self.until(lambda: serving_of(self.folder) is not None)
+        copying = self.launched("backup", *words, is_slow=True)
+        self.until(lambda: self.stands() or self.copies_now())
+        self.assertTrue(self.stands())
+        copying.kill()
+        self.until(lambda: state_of(self.known().server) == "S")
+
+    def test_folders_that_are_not_apart(self) -> None:
+        """Nothing is copied from a folder to itself, or to what's in it, or to a copy: that's one
+        line, and nothing changes."""
+        self.ended(self.service())
+        for _ in range(2):
+            self.assertEqual(self.backup()[0], 0)
+        one, two = (f"{self.copies}/{name}" for name in self.copied())
+        shutil.copytree(one, f"{self.folder}/before")
+        os.symlink(self.folder, f"{self.base}/link")
+        backup = ("backup", "--program", self.program)
+        before = self.files(self.base)
+        for words in (
+            (*backup, self.folder, self.folder),
+            (*backup, f"{self.base}/link", self.folder),
+            (*backup, self.folder, f"{self.base}/link/copies"),
+            (*backup, self.folder, self.base),
+            ("restore", one, one),
+            ("restore", one, two),
+            ("restore", one, self.copies),
+            ("restore", self.copies, self.copies),
+            ("restore", self.copies, f"{self.copies}/new"),
+            ("restore", f"{self.folder}/before", f"{self.base}/link"),
+            ("restore", "--turn", self.copies, self.copies),
+        ):
+            status, said = self.called(*words)
+            self.assertEqual((status, said.count("\n")), (2, 1), (words, said))
+            self.assertEqual(self.files(self.base), before, words)
+
+    def test_a_turn_to_a_copy_without_a_front(self) -> None:
+        """That's said, and the server goes on."""
+        process = self.service()
+        self.put("one", "k")
+        self.assertEqual(self.backup()[0], 0)
+        known, before = self.known(), self.files(self.folder)
+        words = ("restore", "--turn", self.copies, self.folder)
+        text = f"nothing was restored: the service of {self.folder} has no --front\n"
+        self.assertEqual(self.called(*words), (1, text))
+        self.assertEqual((self.known(), self.files(self.folder)), (known, before))
+        self.ended(process)
+        before = self.files(self.folder)
+        self.assertEqual(self.called(*words)[0], 2)
+        self.assertEqual(self.files(self.folder), before)
 
     def test_one_address(self) -> None:
         """Whoever asks the server asks one port after any number of turns and restores."""
@@ -529,6 +781,72 @@ class Turns(OnService):
         for number in range(len(answers)):
             found = self.front.ask("GET", HOVER.replace("/app/", f"/p{number}/"))[2]
             self.assertEqual(found, f'{{"contents":"text {number}"}}'.encode())
+
+    def other(self, text: str) -> str:
+        """A folder with a database that another place made, of which the hover says a text."""
+        path = os.path.join(self.base, f"made-{text}")
+        os.mkdir(path)
+        with Program(self.program).serve(f"{path}/index.db") as server:
+            self.assertIn(b"accepted", self.put(text, "k", server.url))
+        digests.keep(f"{path}/index.db")
+        return path
+
+    def test_a_turn_to_another_database(self) -> None:
+        """Questions meanwhile are answered from the old database or the new one, none twice the
+        other way round, and none fails; the old one stays beside. What was offered by who is gone
+        isn't taken."""
+        self.service("--front", self.local)
+        self.front.ask("PUT", "/projects/app/lsif?key=k", (DUMP % "old").encode())
+        answers: list[tuple[int, bytes]] = []
+        is_over = threading.Event()
+
+        def ask() -> None:
+            while not is_over.is_set():
+                status, _, found = self.front.ask("GET", HOVER)
+                answers.append((status, found))
+
+        asking = threading.Thread(target=ask)
+        asking.start()
+        self.until(lambda: len(answers) > 3)
+        status, said = self.called("restore", "--turn", self.other("new"), self.folder)
+        self.assertEqual((status, side_of(self.folder)), (0, "b"), said)
+        count = len(answers)
+        self.until(lambda: len(answers) > count + 3)
+        is_over.set()
+        asking.join()
+        old, new = (200, b'{"contents":"old"}'), (200, b'{"contents":"new"}')
+        first = answers.index(new)
+        self.assertEqual(answers, [old] * first + [new] * (len(answers) - first))
+        self.assertTrue(os.path.isfile(f"{self.folder}/before/index.db"))
+        path = self.other("never")
+        shutil.copytree(path, f"{self.folder}/next", dirs_exist_ok=True)
+        self.assertEqual(self.called("turn", self.folder)[0], 0)
+        self.assertEqual(self.front.ask("GET", HOVER)[2], new[1])
+
+    def test_turns_to_another_database_that_are_not_taken(self) -> None:
+        """Where there's no service, no front, no digest, or no database of the program, nothing
+        changes, and that's a line."""
+        path, foreign = self.other("new"), os.path.join(self.base, "foreign")
+        words = ("restore", "--turn", path, self.folder)
+        self.assertEqual(self.called(*words)[0], 2)
+        port, self.port = self.port, free_port()
+        process = self.service()
+        self.put("old", "k")
+        self.assertEqual(self.called(*words)[0], 1)
+        self.until(self.answers)
+        self.assertEqual(self.hover(), b'{"contents":"old"}')
+        self.ended(process)
+        self.port = port
+        self.service("--front", self.local)
+        os.mkdir(foreign)
+        with open(f"{foreign}/index.db", "wb") as file:
+            file.write(b"no database")
+        for status in 2, 1:
+            found, said = self.called("restore", "--turn", foreign, self.folder)
+            self.assertEqual((found, said.count("\n")), (status, 1), said)
+            digests.keep(f"{foreign}/index.db")
+        self.assertEqual(self.front.ask("GET", HOVER)[2], b'{"contents":"old"}')
+        self.assertEqual(os.listdir(f"{self.folder}/next"), ["lock"])
 
     def test_a_turn_before_the_requests_are_over(self) -> None:
         """The last requests of a run come slowly enough that the service sees in time how many are

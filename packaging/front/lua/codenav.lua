@@ -82,7 +82,7 @@ local function try(method, is_write)
     local begin = ngx.now()
     local reply = ngx.location.capture("/-server-", options)
     ngx.update_time()
-    ngx.var.codenav_seconds = ("%.3f"):format(ngx.now() - begin)
+    ngx.ctx.server = ngx.now() - begin
     if is_write then add("writes", -1) end
     if is_whole(reply, method) then shared:delete(away) else shared:set(away, true, AWAY) end
     return reply
@@ -116,10 +116,13 @@ function M.serve()
     local reply, tries = reply_within(method, name == "PUT" or name == "DELETE", LONGEST)
     add("waiting", -1)
     ngx.var.codenav_tries = tries
-    if tries > 1 then shared:incr("again", tries - 1, 0) end
+    local server = ngx.ctx.server or 0
+    ngx.ctx.queue = ngx.now() - ngx.req.start_time() - server
+    ngx.var.codenav_queue_ms = ("%d"):format(ngx.ctx.queue * 1000)
+    ngx.var.codenav_server_ms = ("%d"):format(server * 1000)
+    if tries > 1 then shared:incr("codenav_sent_again_total", tries - 1, 0) end
     if not reply then return ngx.exit(503) end
     if reply.status >= 400 then ngx.var.codenav_fault = reply.body:match('"fault":"(%w+)"') or "" end
-    if reply.status == 503 then shared:incr("refused", 1, 0) end
     ngx.status = reply.status
     ngx.header["Content-Type"] = reply.header["Content-Type"]
     ngx.header["Allow"] = reply.header["Allow"]
@@ -138,24 +141,31 @@ end
 -- Counts a request that has been answered, by whoever did.
 function M.count()
     local name = METHODS[ngx.req.get_method()] and ngx.req.get_method() or "other"
-    shared:incr("requests:" .. name .. ":" .. ngx.status, 1, 0)
-    shared:incr("seconds", tonumber(ngx.var.request_time) or 0, 0)
+    local labels = ('method="%s",kind="%s",status="%s"'):format(name, ngx.var.codenav_kind, ngx.status)
+    shared:incr("codenav_requests_total{" .. labels .. "}", 1, 0)
+    local fault = ngx.var.codenav_fault
+    if fault ~= "" then
+        shared:incr(('codenav_faults_total{kind="%s",fault="%s"}'):format(ngx.var.codenav_kind, fault), 1, 0)
+    end
+    shared:incr("codenav_request_seconds_total", tonumber(ngx.var.request_time) or 0, 0)
+    shared:incr("codenav_server_seconds_total", ngx.ctx.server or 0, 0)
+    shared:incr("codenav_queue_seconds_total", ngx.ctx.queue or 0, 0)
 end
 
--- The counts, as Prometheus reads them.
+-- The counts, as Prometheus reads them, and what `codenav supervise` says of the service.
 function M.metrics()
-    for _, key in ipairs(shared:get_keys(0)) do
-        local method, status = key:match("^requests:(%a+):(%d+)$")
-        if method then
-            local line = 'codenav_requests_total{method="%s",status="%s"} %d'
-            ngx.say(line:format(method, status, shared:get(key)))
-        end
+    local keys = shared:get_keys(0)
+    table.sort(keys)
+    for _, key in ipairs(keys) do
+        if key:match("^codenav_") then ngx.say(key, " ", shared:get(key)) end
     end
-    ngx.say("codenav_request_seconds_total ", shared:get("seconds") or 0)
-    ngx.say("codenav_sent_again_total ", shared:get("again") or 0)
-    ngx.say("codenav_store_or_memory_refused_total ", shared:get("refused") or 0)
     ngx.say("codenav_waiting ", under_way("waiting"))
     ngx.say("codenav_writes_held ", shared:get("held") and 1 or 0)
+    local own = io.open("/run/codenav/codenav.prom")
+    if own then
+        ngx.print(own:read("*a"))
+        own:close()
+    end
 end
 
 -- What `codenav supervise` asks for. /hold?seconds=N holds writes for so long. /turn?side=b goes to

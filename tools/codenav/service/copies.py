@@ -8,15 +8,20 @@ it. Beside its files is their digest, which is compared before it's put back.
 import os
 import shutil
 import time
-from typing import NamedTuple
+from contextlib import suppress
+from typing import NamedTuple, Optional
 
 from codenav.faults import BadCall
+from codenav.files import of_file
 from codenav.program import Program
 from codenav.service import digests
 from codenav.service.folder import (
+    COPIED,
     DATABASE,
+    apart,
     database_at,
     give,
+    is_of,
     locked,
     other,
     serving_of,
@@ -24,11 +29,18 @@ from codenav.service.folder import (
     use,
 )
 from codenav.service.locks import UNSEEN, holder_of
-from codenav.service.standing import copied, copy_file, emptied, has_database, settled
+from codenav.service.standing import (
+    NotStill,
+    copied,
+    copy_file,
+    emptied,
+    has_database,
+    settled,
+)
 
 NAME = "%Y%m%dT%H%M%SZ"
 UNFINISHED = ".unfinished"
-PAUSE = 0.1
+PAUSE, SECONDS = 0.1, 30.0
 
 
 class Copy(NamedTuple):
@@ -55,53 +67,83 @@ def unused(target: str) -> str:
     return path
 
 
+def server_over(folder: str, database: str) -> Optional[int]:
+    """The process that has a database, or that's about to, since it was just started."""
+    holder = holder_of(database)
+    if holder == UNSEEN:
+        raise NotStill(f"{database}: a process that can't be seen here has it")
+    known = serving_of(folder)
+    if holder is None and known is not None and is_of(known.server, database):
+        return known.server
+    return holder
+
+
 def copied_now(folder: str, new: str) -> float:
-    """Copies the database in use, and answers for how long its server stood."""
-    with locked(folder):
-        database = database_at(folder, side_of(folder))
-        if not os.path.isfile(database):
-            raise BadCall(f"{database}: no database")
-        holder = holder_of(database)
-        if holder == UNSEEN:
-            raise BadCall(f"{database}: a process that can't be seen here has it")
-        return copied(database, new, holder)
+    """Copies the database in use into a new folder, and answers for how long its server stood. One
+    that's being started again is tried again for some seconds, and may be started in between."""
+    stop = time.monotonic() + SECONDS
+    while True:
+        emptied(new)
+        give(new, os.path.dirname(new))
+        try:
+            with locked(folder):
+                database = database_at(folder, side_of(folder))
+                if not os.path.isfile(database):
+                    raise BadCall(f"{database}: no database")
+                return copied(database, new, server_over(folder, database))
+        except NotStill as fault:
+            if time.monotonic() > stop:
+                raise BadCall(f"no copy in {SECONDS:.0f} seconds of tries: {fault}") from None
+        time.sleep(PAUSE)
+
+
+def note_copy(folder: str) -> None:
+    """Notes that there's a good copy now, where it can be noted."""
+    with suppress(OSError):
+        path = os.path.join(folder, COPIED)
+        with open(path, "ab"):
+            os.utime(path)
+        give(path, folder)
 
 
 def backup(program: Program, folder: str, target: str, keep: int) -> Copy:
     """Makes a copy, and removes the oldest of those that are too many. The start over the copy
     reads and checks all of it, with no request. What root makes belongs to who has the folder.
     Raises BadCall."""
+    apart(target, folder)
     if not os.path.isdir(target):
         os.makedirs(target, mode=0o700)
         give(target, folder)
     new = os.path.join(target, UNFINISHED)
     with locked(target):
-        emptied(new)
-        give(new, target)
         try:
             stood = copied_now(folder, new)
             tried = program.called("replay", os.path.join(new, DATABASE), os.devnull)
             if tried.status != 0:
                 raise BadCall(f"the copy is refused: {tried.warned.strip()}")
+            for path in digests.files_of(os.path.join(new, DATABASE)):
+                give(path, target)
             digests.keep(os.path.join(new, DATABASE))
-            for name in os.listdir(new):
-                give(os.path.join(new, name), target)
             settled(new)
             made = unused(target)
             os.rename(new, made)
         finally:
             shutil.rmtree(new, ignore_errors=True)
+        note_copy(folder)
         for name in copies(target)[:-keep]:
-            shutil.rmtree(os.path.join(target, name))
+            os.rename(os.path.join(target, name), new)
+            with of_file(new):
+                shutil.rmtree(new)
     files = digests.files_of(os.path.join(made, DATABASE))
     return Copy(made, sum(map(os.path.getsize, files)), stood)
 
 
 def put(copy: str, folder: str) -> None:
-    """Copies into the side that isn't in use, and then names that one; the database that was in use
-    stays beside until the next call."""
+    """Copies into the side that isn't in use, and then names that one, so that it's put back; the
+    database that was in use stays beside until the next call."""
     old = side_of(folder)
     target, before = os.path.join(folder, other(old)), os.path.join(folder, "before")
+    shutil.rmtree(before, ignore_errors=True)
     try:
         emptied(target)
         for path in digests.files_of(os.path.join(copy, DATABASE)):
@@ -114,10 +156,8 @@ def put(copy: str, folder: str) -> None:
     except OSError:
         if side_of(folder) == old:
             shutil.rmtree(target, ignore_errors=True)
-        raise
-    give(os.path.join(folder, "side"), folder)
-    shutil.rmtree(before, ignore_errors=True)
-    if os.path.isdir(os.path.join(folder, old)):
+            raise
+    with suppress(OSError):
         os.rename(os.path.join(folder, old), before)
 
 
@@ -139,7 +179,10 @@ def found(path: str) -> str:
 
 def restore(path: str, folder: str) -> str:
     """Puts a copy in the place of a service's database, and answers which. Raises BadCall."""
+    apart(path, folder)
     copy = found(path)
+    if has_database(folder):
+        raise BadCall(f"{folder}: a copy, and not the folder of a service")
     os.makedirs(folder, mode=0o700, exist_ok=True)
     with locked(folder):
         database = database_at(folder, side_of(folder))

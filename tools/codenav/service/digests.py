@@ -5,8 +5,7 @@ import hashlib
 import os
 from typing import Optional
 
-from codenav.files import whole_file
-from codenav.service.folder import LOG, synced
+from codenav.service.folder import LOG, put_whole, synced
 
 BLOCK = 1 << 20
 ENDING = ".digest"
@@ -33,10 +32,7 @@ def text_of(database: str) -> str:
 
 def keep(database: str) -> None:
     """Keeps the digest beside the database."""
-    with whole_file(database + ENDING) as out:
-        out.write(text_of(database).encode())
-        out.flush()
-        os.fsync(out.fileno())
+    put_whole(database + ENDING, text_of(database), database)
 
 
 def forget(database: str) -> None:

@@ -2,29 +2,36 @@
 the server that has it.
 
 FOLDER/side names the side in use, `a` or `b`; FOLDER/a/index.db is the database there, with its log
-index.db-wal. FOLDER/server says which process serves it. Who copies the database, or puts another
+index.db-wal. FOLDER/server says which process serves it, and FOLDER/copied by its time when the last
+good copy was made. Who copies the database, or puts another
 in its place, holds FOLDER/lock meanwhile, and so does who starts a server.
 """
 
+import errno
 import fcntl
 import json
 import os
+import time
 from contextlib import contextmanager
 from dataclasses import asdict, dataclass
-from typing import Iterator, Optional
+from typing import Iterator, Optional, Union
 
 from codenav.faults import BadCall
-from codenav.files import whole_file
+from codenav.files import of_file, whole_file
 
 SIDES = ("a", "b")
 DATABASE = "index.db"
 LOG = "-wal"
+COPIED = "copied"
+# for how long a lock is waited for, which a turn or the copy of a large database may have
+LONGEST_WAIT = 900.0
+TICK = 0.02
 
 
 @dataclass(frozen=True)
 class Serving:
-    """The process that keeps the service, its server, how often turns were taken and tried, and
-    what became of the last one."""
+    """The process that keeps the service, its server, how often turns were taken and tried, what
+    became of the last one, and whether it has a front."""
 
     supervisor: int
     server: int
@@ -32,6 +39,7 @@ class Serving:
     turns: int = 0
     tries: int = 0
     last: str = ""
+    has_front: bool = True
 
 
 def other(side: str) -> str:
@@ -55,19 +63,33 @@ def database_at(folder: str, side: str) -> str:
 
 
 def use(folder: str, side: str) -> None:
-    """Names the side in use, for good also where the power is cut then."""
-    with whole_file(os.path.join(folder, "side")) as out:
-        out.write(f"{side}\n".encode())
+    """Names the side in use, for good also where the power is cut then. Where that fails the one of
+    before is named."""
+    before, path = side_of(folder), os.path.join(folder, "side")
+    try:
+        put_whole(path, f"{side}\n", folder)
+        synced(folder)
+    except OSError:
+        if side_of(folder) != before:
+            put_whole(path, f"{before}\n", folder)
+        raise
+
+
+def put_whole(path: str, text: str, like: str) -> None:
+    """Writes a file to the disk, which belongs to who has another path where root makes it."""
+    with whole_file(path) as out, of_file(path):
+        out.write(text.encode())
         out.flush()
+        give(out.fileno(), like)
         os.fsync(out.fileno())
-    synced(folder)
 
 
 def synced(path: str) -> None:
     """Has the system write a file, or the names in a folder, to the disk."""
     handle = os.open(path, os.O_RDONLY)
     try:
-        os.fsync(handle)
+        with of_file(path):
+            os.fsync(handle)
     finally:
         os.close(handle)
 
@@ -113,22 +135,49 @@ def place_of(process: int, word: str) -> str:
         return ""
 
 
-def give(path: str, like: str) -> None:
-    """Has what root made belong to who has another path."""
+def give(path: Union[str, int], like: str) -> None:
+    """Has a path, or an open file, that root made belong to who has another path."""
     if os.geteuid() == 0:
         owner = os.stat(like)
         os.chown(path, owner.st_uid, owner.st_gid)
 
 
+def apart(path: str, folder: str) -> None:
+    """Raises BadCall where one of two folders is the other one, or in it."""
+    places = [os.path.realpath(path), os.path.realpath(folder)]
+    if os.path.commonpath(places) in places:
+        raise BadCall(f"{path} and {folder}: neither may be the other one, or in it")
+
+
 @contextmanager
-def locked(folder: str) -> Iterator[None]:
+def locked(folder: str, seconds: float = LONGEST_WAIT) -> Iterator[None]:
     """Keeps others from starting, copying or replacing the database; the system lets go where the
-    process is killed."""
+    process is killed. Raises TimeoutError where another has it for so many seconds."""
     path = os.path.join(folder, "lock")
     handle = os.open(path, os.O_RDWR | os.O_CREAT | os.O_CLOEXEC, 0o600)
     try:
         give(path, folder)
-        fcntl.flock(handle, fcntl.LOCK_EX)
+        stop = time.monotonic() + seconds
+        while not locks(handle):
+            if time.monotonic() > stop:
+                text = f"another process has it for over {seconds:g} s"
+                raise TimeoutError(errno.ETIMEDOUT, text, path)
+            time.sleep(TICK)
         yield
     finally:
         os.close(handle)
+
+
+def is_locked(folder: str) -> bool:
+    """Whether somebody has it locked now."""
+    with open(os.path.join(folder, "lock"), "rb+") as file:
+        return not locks(file.fileno())
+
+
+def locks(handle: int) -> bool:
+    """Locks an open file, where nobody has it locked."""
+    try:
+        fcntl.flock(handle, fcntl.LOCK_EX | fcntl.LOCK_NB)
+    except BlockingIOError:
+        return False
+    return True

@@ -27,6 +27,8 @@ class NoFront(Exception):
 def told(url: str, command: str) -> Optional[State]:
     """The front's state after a command, or None where it refused that."""
     answer = request(f"{url}{command}", seconds=SECONDS)
+    if answer.status == 0:
+        raise NoFront(f"{url}: {answer.fault}")
     found = reply_in(answer)
     if found is None or set(found) != set(State.__annotations__):
         raise NoFront(f"{url} isn't the port of a front")

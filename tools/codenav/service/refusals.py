@@ -4,7 +4,6 @@ The program ends with status 2 and one line whatever the fault is, and `store re
 what the line doesn't say is asked of the system.
 """
 
-import errno
 import os
 from dataclasses import dataclass
 from typing import Optional
@@ -41,10 +40,9 @@ def refusal_of(said: str, database: str) -> Refusal:
 
 
 def refusal_by(fault: OSError, folder: str) -> Refusal:
-    """What stands behind a fault of the system before a server was started; a disk may get room
-    again."""
-    path = fault.filename or folder
-    return Refusal(f"{path}: {fault.strerror}", fault.errno == errno.ENOSPC)
+    """What stands behind a fault of the system before a server was started, which is tried again,
+    since it may pass."""
+    return Refusal(f"{fault.filename or folder}: {fault.strerror}", True)
 
 
 def passing(database: str) -> Optional[Refusal]:

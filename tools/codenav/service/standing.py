@@ -6,15 +6,20 @@ import os
 import shutil
 import signal
 import time
-from contextlib import contextmanager
+from contextlib import contextmanager, suppress
 from typing import Iterator, Optional
 
 from codenav.faults import BadCall
+from codenav.files import of_file
 from codenav.service.digests import files_of
 from codenav.service.folder import DATABASE, synced
 
 SECONDS = 5
 BLOCK = 1 << 20
+
+
+class NotStill(BadCall):
+    """A server that ended, or goes on: a copy may be made a little later."""
 
 
 def state_of(process: int) -> str:
@@ -30,7 +35,12 @@ def watch_over(process: int) -> tuple[int, int]:
     """Starts a process of its own group that lets another go on when this one ends, however it
     ends. Answers it, and what to close for that."""
     seen, kept = os.pipe()
-    watcher = os.fork()
+    try:
+        watcher = os.fork()
+    except OSError:
+        os.close(seen)
+        os.close(kept)
+        raise
     if watcher == 0:
         try:
             os.setsid()
@@ -45,22 +55,27 @@ def watch_over(process: int) -> tuple[int, int]:
 
 @contextmanager
 def standing(process: Optional[int]) -> Iterator[None]:
-    """Has a process stand. Raises BadCall where it went on before the end, since then a copy that
-    was made is void."""
+    """Has a process stand. Raises NotStill where it went on before the end, since then a copy that
+    was made is void, and BadCall where it may not be made to stand."""
     if process is None:
         yield
         return
-    watcher, kept = watch_over(process)
     try:
-        os.kill(process, signal.SIGSTOP)
+        watcher, kept = watch_over(process)
+    except OSError as fault:
+        text = f"the server, process {process}, can't be made to stand: {fault.strerror}"
+        raise BadCall(text) from None
+    try:
+        with suppress(ProcessLookupError):
+            os.kill(process, signal.SIGSTOP)
         stop = time.monotonic() + SECONDS
         while state_of(process) != "T":
             if time.monotonic() > stop or not state_of(process):
-                raise BadCall(f"the server, process {process}, doesn't stand still")
+                raise NotStill(f"the server, process {process}, doesn't stand still")
             time.sleep(0.001)
         yield
         if state_of(process) != "T":
-            raise BadCall(f"the server, process {process}, went on while it was copied")
+            raise NotStill(f"the server, process {process}, went on while it was copied")
     finally:
         os.close(kept)
         os.waitpid(watcher, 0)
@@ -68,7 +83,7 @@ def standing(process: Optional[int]) -> Iterator[None]:
 
 def copy_file(path: str, target: str) -> None:
     """Copies a file; its blocks are shared where the file system can."""
-    with open(path, "rb") as source, open(target, "xb") as out:
+    with open(path, "rb") as source, open(target, "xb") as out, of_file(target):
         count = os.fstat(source.fileno()).st_size
         try:
             while count > 0 and (done := os.copy_file_range(source.fileno(), out.fileno(), count)):
@@ -99,7 +114,8 @@ def settled(folder: str) -> None:
 def emptied(folder: str) -> None:
     """Makes a folder that's empty."""
     if os.path.lexists(folder):
-        shutil.rmtree(folder)
+        with of_file(folder):
+            shutil.rmtree(folder)
     os.makedirs(folder, mode=0o700)
 
 

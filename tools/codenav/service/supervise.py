@@ -13,9 +13,12 @@ from typing import Optional, Union
 from codenav.program import Running
 from codenav.progress import Shows
 from codenav.service import digests
-from codenav.service.folder import Serving, database_at, locked, note, serving_of, side_of
+from codenav.service.folder import Serving, database_at, locked, note, other, serving_of, side_of
 from codenav.service.front import NoFront, told
+from codenav.service.hung import Watch
+from codenav.service.measures import write
 from codenav.service.refusals import Refusal, refusal_by, refusal_of
+from codenav.service.systemd import DAY, longest, may_take, say
 from codenav.service.turning import How, NotTurned, Turn
 
 LASTING = 78
@@ -23,6 +26,9 @@ PAUSE, LONG_PAUSE = 0.2, 1.0
 TICK = 0.05
 LOOK = 1.0
 SPENT = 0.9
+EACH = 5.0
+LONGEST_WAIT = 60.0
+GOES_ON = "WATCHDOG=1"
 NO_FRONT = "started again, since there's no --front"
 
 
@@ -33,7 +39,7 @@ class Supervisor:
         self.folder, self.how, self.front, self.shows = os.path.abspath(folder), how, front, shows
         self.stops = self.turns_now = False
         self.side, self.turns, self.tries, self.last, self.refused = "", 0, 0, "", ""
-        self.asked_before, self.looked = -1, 0.0
+        self.asked_before, self.looked, self.starts, self.measured = -1, 0.0, 0, 0.0
 
     def stop(self, *_: object) -> None:
         """Is called by SIGTERM."""
@@ -58,6 +64,7 @@ class Supervisor:
 
     def rest(self, seconds: float) -> None:
         """Waits, but not after SIGTERM."""
+        say(GOES_ON)
         stop = time.monotonic() + seconds
         while not self.stops and time.monotonic() < stop:
             time.sleep(TICK)
@@ -65,7 +72,7 @@ class Supervisor:
     def started(self) -> Union[Running, Refusal]:
         """A server over the database in use, where that's as it was left, or why there's none."""
         try:
-            with locked(self.folder):
+            with locked(self.folder, LONG_PAUSE):
                 known = serving_of(self.folder)
                 if known is not None and known.supervisor != os.getpid():
                     text = f"{self.folder} is served by process {known.supervisor}"
@@ -77,6 +84,7 @@ class Supervisor:
                     return Refusal(changed, False)
                 digests.forget(database)
                 server = self.how.launched(self.folder, self.side)
+                self.starts += 1
                 self.noted(server)
                 return server
         except OSError as fault:
@@ -86,22 +94,37 @@ class Supervisor:
         """Says who serves, where the disk has room for it: `turn` asks for that alone."""
         known = os.getpid(), server.pid, self.side, self.turns, self.tries, self.last
         try:
-            note(self.folder, Serving(*known))
+            note(self.folder, Serving(*known, self.front is not None))
         except OSError as fault:
             self.shows.warn(f"{self.folder}/server isn't written: {fault.strerror}")
 
     def watched(self, server: Running) -> Running:
         """Looks after a server until it has ended, or is to end; answers the one that took its
         place where one did."""
-        begin, was_said = time.monotonic(), False
+        begin, watch = time.monotonic(), None
         while server.is_there() and not self.stops:
-            if not was_said and server.listens():
-                was_said, self.refused = True, ""
-                self.shows.warn(f"serves {server.database} after {time.monotonic() - begin:.1f} s")
-            if was_said and self.is_due():
+            if watch is None and server.listens():
+                watch, self.refused = Watch(self.folder, longest() / 3), ""
+                said = f"serves {server.database} after {time.monotonic() - begin:.1f} s"
+                self.shows.warn(said)
+                say("READY=1", f"STATUS={said}")
+            if watch is not None and self.is_due():
                 server = self.turned(server)
+            if watch is not None and watch.hangs(server):
+                self.shows.warn(f"nothing was heard of the server for {watch.seconds:.0f} s")
+                server.kill()
+            self.measure()
             time.sleep(TICK)
         return server
+
+    def measure(self) -> None:
+        """Says now and then that the service goes on, and how."""
+        now = time.monotonic()
+        if now - self.measured > EACH:
+            self.measured = now
+            say(GOES_ON)
+            counts = {"starts": self.starts, "turns": self.turns, "turns_tried": self.tries}
+            write(self.folder, self.side, counts)
 
     def is_due(self) -> bool:
         """Whether a turn is asked for, or the run has few requests left. A front that holds writes
@@ -134,13 +157,15 @@ class Supervisor:
             return server
         turn = Turn(self.folder, self.front, self.how, self.side, server, lambda: self.stops)
         try:
-            with locked(self.folder):
+            may_take(DAY)
+            with locked(self.folder, LONGEST_WAIT):
                 server, self.last = turn.taken()
-                self.side, self.turns = side_of(self.folder), self.turns + 1
+                self.side, self.turns = other(self.side), self.turns + 1
         except NotTurned as fault:
             self.last = f"no turn: {fault}"
         except OSError as fault:
             self.last = f"no turn: {refusal_by(fault, self.folder).text}"
+        may_take(longest())
         self.noted(server)
         self.shows.warn(self.last)
         return server
@@ -171,5 +196,6 @@ class Supervisor:
         person alone."""
         if refusal.text != self.refused:
             self.shows.warn(refusal.text)
+            say(f"STATUS={refusal.text}")
         self.refused = refusal.text
         return refusal.may_pass

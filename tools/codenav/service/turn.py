@@ -5,17 +5,23 @@ import signal
 import time
 
 from codenav.faults import BadCall
-from codenav.service.folder import serving_of
+from codenav.service.folder import Serving, serving_of
 
 TICK = 0.1
+
+
+def service_of(folder: str) -> Serving:
+    """Who serves. Raises BadCall where nobody does."""
+    found = serving_of(folder)
+    if found is None:
+        raise BadCall(f"{folder}: no service runs there")
+    return found
 
 
 def turned(folder: str, seconds: float) -> tuple[bool, str]:
     """Whether a turn was taken, and what's to be said of it. Raises BadCall where nobody serves, or
     nothing came of it in time."""
-    before = serving_of(folder)
-    if before is None:
-        raise BadCall(f"{folder}: no service runs there")
+    before = service_of(folder)
     os.kill(before.supervisor, signal.SIGHUP)
     stop = time.monotonic() + seconds
     while time.monotonic() < stop:

@@ -1,5 +1,6 @@
 """A turn: a new server over a copy of the database takes the place of the one that runs. Reads go
-on meanwhile, and writes wait.
+on meanwhile, and writes wait; where the new one is over a database from elsewhere, they wait for
+the switch alone.
 
 At each moment there's one side whose database is the service's: the copy's is named when all of it
 is on the disk, its server listens, and no write came since it was made. Where the process is killed
@@ -14,8 +15,9 @@ from typing import Callable, Optional
 
 from codenav.faults import BadCall
 from codenav.program import Program, Running
-from codenav.service.folder import database_at, other, use
+from codenav.service.folder import database_at, other, side_of, use
 from codenav.service.front import NoFront, State, told
+from codenav.service.offered import NEXT, is_offered, moved
 from codenav.service.refusals import refusal_by
 from codenav.service.standing import copied, emptied, settled
 
@@ -67,7 +69,14 @@ class Turn:
             raise NotTurned("the service is being stopped")
         return state
 
-    def wait(self, is_done: Callable[[], bool], seconds: Optional[float], what: str) -> None:
+    def hold(self) -> None:
+        """Holds writes, and waits for the one that's under way."""
+        self.held(is_first=True)
+        self.wait(self.no_write, LONGEST_WRITE, "a write doesn't end")
+
+    def wait(
+        self, is_done: Callable[[], bool], seconds: Optional[float], what: str, holds: bool = True
+    ) -> None:
         """Waits for something, and holds writes meanwhile."""
         begin = time.monotonic()
         renewed = begin
@@ -75,7 +84,9 @@ class Turn:
             now = time.monotonic()
             if seconds is not None and now - begin > seconds:
                 raise NotTurned(f"{what} within {seconds:.0f} seconds")
-            if now - renewed > HOLD / 5:
+            if self.is_stopping():
+                raise NotTurned("the service is being stopped")
+            if holds and now - renewed > HOLD / 5:
                 self.held()
                 renewed = now
             time.sleep(PAUSE)
@@ -95,11 +106,11 @@ class Turn:
         settled(target)
         return stood
 
-    def started(self) -> Running:
-        """A server over the copy, which listens."""
+    def started(self, holds: bool) -> Running:
+        """A server over the other side, which listens."""
         server = self.how.launched(self.folder, other(self.side))
         try:
-            self.wait(lambda: server.listens() or not server.is_there(), None, "")
+            self.wait(lambda: server.listens() or not server.is_there(), None, "", holds)
             if not server.listens():
                 server.end()
                 said = server.last_words().rpartition("\n")[2]
@@ -113,7 +124,11 @@ class Turn:
         """Goes to the new side, where writes were held until now. A front that doesn't answer is
         told the side later."""
         self.held()
-        use(self.folder, other(self.side))
+        try:
+            use(self.folder, other(self.side))
+        except OSError:
+            if side_of(self.folder) == self.side:
+                raise
         try:
             is_refused = told(self.front, f"/turn?side={other(self.side)}") is None
         except NoFront:
@@ -125,32 +140,44 @@ class Turn:
     def taken(self) -> tuple[Running, str]:
         """The new server, and what is to be said of the turn. Raises NotTurned, and lets writes go
         on, where it can't be taken."""
-        begin = time.monotonic()
+        begin, stood, before = time.monotonic(), 0.0, os.path.join(self.folder, "before")
+        offers = is_offered(self.folder)
         try:
-            self.held(is_first=True)
-            self.wait(self.no_write, LONGEST_WRITE, "a write doesn't end")
-            stood = self.copy()
-            self.held()
-            server = self.started()
+            if offers:
+                target = os.path.join(self.folder, other(self.side))
+                emptied(target)
+                moved(os.path.join(self.folder, NEXT), target)
+            else:
+                self.hold()
+                stood = self.copy()
+                self.held()
+            server = self.started(holds=not offers)
             try:
+                if offers:
+                    begin = time.monotonic()
+                    self.hold()
                 self.switch()
             except (NotTurned, OSError):
                 server.end()
                 raise
         except NotTurned:
-            self.given_up()
+            self.dropped()
             raise
         except OSError as fault:
-            self.given_up()
+            self.dropped()
             raise NotTurned(refusal_by(fault, self.folder).text) from None
         waited = time.monotonic() - begin
         self.server.end()
+        if offers:
+            shutil.rmtree(before, ignore_errors=True)
+            os.rename(os.path.join(self.folder, self.side), before)
         shutil.rmtree(os.path.join(self.folder, self.side), ignore_errors=True)
         return server, f"reads waited {stood:.3f} s, writes {waited:.3f} s"
 
-    def given_up(self) -> None:
-        """Lets writes go on, and removes the copy."""
-        shutil.rmtree(os.path.join(self.folder, other(self.side)), ignore_errors=True)
+    def dropped(self) -> None:
+        """Lets writes go on, and removes the copy, where that isn't the side in use."""
+        if side_of(self.folder) == self.side:
+            shutil.rmtree(os.path.join(self.folder, other(self.side)), ignore_errors=True)
         try:
             told(self.front, "/release")
         except NoFront:
