@@ -26,8 +26,9 @@ CODE, USER, OTHER = "code", "user", "other"
 REVISIONS = 3
 NAMES = ["run", "rum", "rob"]
 Act = tuple[str, int, int]
-"""What is done to the set `code`: `set` and `project` publish a revision, `remove` removes it; and
-after how many changes it's killed, -1 where it isn't."""
+"""What is done to the set `code`: `set` and `project` publish a revision, a small one too as a set
+where there is one, and `remove` removes it; and after how many changes it's killed, -1 where it
+isn't."""
 
 
 def split_into(folder: str, name: str, body: bytes, tags: bytes, profile: str) -> set[Any]:
@@ -134,13 +135,26 @@ class Scene:
 
     def questions(self, name: str) -> Iterator[Question]:
         """The questions that are answered in parts as of the whole dump in every revision: those
-        that don't join by a hidden key of a set."""
+        that don't join by a hidden key of a set, nor to several hovers."""
         hidden = {key for other, keys in self.hidden.items() if other != name for key in keys}
         walks = self.walks_of(name)
         for walk in walks:
             for question in questions(walk, OF_PROFILE[self.profiles[name]]):
-                if not any(hidden & keys_at(own, question) for own in walks):
+                keys = set[Any]().union(*(keys_at(own, question) for own in walks))
+                if not hidden & keys and (
+                    question.request != "hover" or len(self.hovers_of(name, keys)) < 2
+                ):
                     yield question
+
+    def hovers_of(self, name: str, keys: set[Any]) -> set[str]:
+        """The hovers that others than a project or set export of keys."""
+        return {
+            repr(walk.vertices[walk.first(own, "hover")]["result"])
+            for other in self.names
+            for walk in self.walks_of(other)
+            for own in (own for key in keys for own in walk.bearers("export", key))
+            if other != name and walk.first(own, "hover") is not None
+        }
 
     def differs(self, name: str, question: Question) -> bool:
         """Whether an answer isn't the same in all revisions."""
@@ -204,12 +218,14 @@ class Scene:
 
     def act(self, servers: Servers, what: str, revision: int) -> None:
         """Does something to the set."""
-        if what == "set":
+        store = Kept(servers, self.servers[0])
+        if what == "set" or what == "project" and store.mark(CODE) is not None:
             self.publish(servers, CODE, revision)
-            return
-        if what == "project":
+        elif what == "project":
             self.put(servers, CODE, self.code[revision])
-        remove_set(Kept(servers, self.servers[0]), CODE)
+        else:
+            store.remove(CODE)
+            remove_set(store, CODE)
 
     def publish(self, servers: Servers, name: str, number: int) -> None:
         """Publishes a set."""
@@ -246,6 +262,7 @@ class SpreadScene(Scene):
             others=[Kept(servers, server) for server in self.servers if server != home],
             surface=os.path.join(folder, "surface"),
             front=Kept(servers, FRONT),
+            at_once=1,
         ).run()
 
 

@@ -298,9 +298,7 @@ class Split(unittest.TestCase):
         """Where documents are too many for one tags file they stand in lists, in the order of their
         addresses."""
         uris = {f"file:///{number:03d}": 1 for number in range(50)}
-        with mock.patch.object(manifest, "MOST_LINES", 20), mock.patch.object(
-            manifest, "LIST_LINES", 15
-        ):
+        with mock.patch.object(files, "MOST_LINES", 20), mock.patch.object(files, "LIST_LINES", 15):
             self.assertEqual(self.split(body_of(made(uris)), elements=100)[0], 0)
         head = self.head()
         self.assertEqual(
@@ -312,19 +310,64 @@ class Split(unittest.TestCase):
             [head.part_of(one.uri) for one in documents], [one.project for one in documents]
         )
 
-    def test_texts(self) -> None:
-        """The manifest has a digest of each document's text, the revision and the folder, with
-        characters that are escaped."""
-        text = os.path.join(self.folder, "a")
-        with open(text, "wb") as file:
-            file.write(b"text\n")
+    def test_a_manifest_of_many_bytes(self) -> None:
+        """Where documents have more bytes than a tags file may they stand in lists, each of which is
+        one; where an address is longer than a line may be the set is refused before it's written,
+        and so it is where the parts are too many."""
+        uris = {f"file:///{'x' * 300}{number:03d}": 1 for number in range(50)}
+        with mock.patch.object(files, "MOST_BYTES", 6_000):
+            self.assertEqual(self.split(body_of(made(uris)), elements=200)[0], 0)
+            head = self.head()
+            self.assertGreater(len(head.lists), 2)
+            documents = files.read_documents(os.path.join(self.out, "manifest.tags"), head)
+            self.assertEqual([one.uri for one in documents], sorted(uris))
+            for name in os.listdir(self.out):
+                if name.endswith(".tags"):
+                    self.assertLessEqual(os.path.getsize(os.path.join(self.out, name)), 6_000)
+        for uri, most, said in (
+            (
+                f"file:///{'y' * 66_000}",
+                1 << 20,
+                "66[0-9]{3} bytes, which no line of tags may have",
+            ),
+            ("file:///y", 1_000, "the manifest of the set code has [0-9]+ bytes, more than 1000"),
+        ):
+            self.out = os.path.join(self.folder, "new")
+            with mock.patch.object(files, "MOST_BYTES", most):
+                status, text = self.split(body_of(made({**uris, uri: 1})), name="code", elements=50)
+            self.assertEqual((status, text.count("\n")), (2, 1), text)
+            self.assertRegex(text, said)
+            self.assertFalse(os.path.exists(self.out))
+
+    def test_a_hover_without_a_range(self) -> None:
+        """A dump that has no range may export a hover: others find it in one part."""
+        for documents in 1, 3:
+            elements: list[Element] = [json.loads(META)]
+            vertex, edge = {"type": "vertex"}, {"type": "edge"}
+            for number in range(documents):
+                elements.append({**vertex, "label": "document", "uri": f"file:///{number}"})
+            first = len(elements)
+            key = {"scheme": "s", "identifier": "i", "kind": "export", "unique": "scheme"}
+            elements += [
+                {**vertex, "label": "resultSet"},
+                {**vertex, "label": "hoverResult", "result": {"contents": "text"}},
+                {**vertex, "label": "moniker", **key},
+                {**edge, "label": "textDocument/hover", "outV": first, "inV": first + 1},
+                {**edge, "label": "moniker", "outV": first, "inV": first + 2},
+            ]
+            self.assertEqual(
+                self.split(body_of([{**e, "id": at} for at, e in enumerate(elements)]))[0], 0
+            )
+            written = [body for name, body in self.written().items() if name.endswith(".lsif")]
+            self.assertEqual(sum(b'"contents":"text"' in body for body in written), 1)
+
+    def test_what_is_said_of_a_set(self) -> None:
+        """The manifest has the revision and the folder, with characters that are escaped."""
         where = f"file:///src={self.folder}"
         body = body_of(made({"file:///src/a": 1, "file:///src/b": 1}))
         self.assertEqual(self.split(body, maps=(where,), revision="v1\\\t2")[0], 0)
         head = self.head()
         self.assertEqual((head.revision, head.folder), ("v1\\\t2", where))
-        documents = files.read_documents(os.path.join(self.out, "manifest.tags"), head)
-        self.assertEqual([one.text for one in documents], ["b9e68e1bea3e5b19", ""])
 
     def test_deep_references(self) -> None:
         """Results that lead to too many others are refused, or cut short where that's asked for."""

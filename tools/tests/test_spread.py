@@ -7,6 +7,7 @@ import multiprocessing
 import os
 import random
 import tempfile
+import threading
 import unittest
 from contextlib import redirect_stderr, redirect_stdout
 from typing import Any, Callable, Optional
@@ -36,6 +37,7 @@ from tests.test_lsp import Editor
 from tests.test_set_service import MOST_STEPS, answer_of, asked_at, revision, split_into
 
 SERVERS = 3
+SECONDS = 60
 
 
 def crate(name: str) -> bytes:
@@ -108,11 +110,12 @@ class OnServers(unittest.TestCase):
             make(home),
             folder,
             others=[make(server) for server in servers if server != home],
+            at_once=1,
             surface=os.path.join(folder, "surface"),
             front=Store(self.front.url),
         )
         with open(os.path.join(folder, "surface.json"), encoding="utf-8") as file:
-            parts, packages = json.load(file)
+            parts, packages, _ = json.load(file)
         surface = tuple(PartEntry(*part) for part in parts)
         own.head = own.head._replace(surface=surface, packages=tuple(packages))
         return own
@@ -286,20 +289,28 @@ class Published(TwoSets):
         os._exit(0)
 
     def test_a_server_away(self) -> None:
-        """Where a server is away in the midst it's said which are done, the old revision answers
-        on, and the next publish goes on from there."""
+        """Where another server than the home is away, or goes in the midst, the set is published
+        without it, and the next publish goes on from there; where the home is away it's said which
+        servers are done, and the old revision answers on."""
         self.spread(self.folders[0]).run()
         counts = self.counts()
-        self.running[2].end()
-        with self.assertRaisesRegex(
-            NoReply,
-            f"^{self.servers[2]}: .*; servers done: .*; the set is as it was, publish again$",
-        ):
+        for number, at in (1, 0), (0, 1):
+            count, end = [at], self.running[2].end
+            if not at:
+                end()
+            spread = self.spread(self.folders[number], lambda url: Stops(url, count, True, end))
+            spread.run()
+            self.assertEqual([one.server for one in spread.away], [self.servers[2]])
+            self.assertEqual(self.answering(), number)
+            self.running[2] = self.start(self.ports[2])
+            again = self.spread(self.folders[number])
+            again.run()
+            self.assertEqual((again.away, self.answering(), self.counts()), ([], number, counts))
+        self.running[0].end()
+        with self.assertRaisesRegex(NoReply, f"^{self.servers[0]}: "):
             self.spread(self.folders[1], lambda url: Store(url, retry=False)).run()
-        self.running[2] = self.start(self.ports[2])
+        self.running[0] = self.start(self.ports[0])
         self.assertEqual(self.answering(), 0)
-        self.spread(self.folders[1]).run()
-        self.assertEqual((self.answering(), self.counts()), (1, counts))
 
 
 class Called(OnServers):
@@ -392,18 +403,35 @@ class Called(OnServers):
         self.assertEqual((status, "again" in warned), (0, False))
         self.assertEqual([len(self.on(server)) for server in self.servers], [3, 3, 0])
 
+    def test_apart(self) -> None:
+        """Where a package is apart the surface isn't sent for it, and that of the package itself
+        is."""
+        code, user = self.name_at(self.servers[0], "code"), self.name_at(self.servers[1], "user")
+        for name, of in (code, "crate"), (user, "user"), (code, "crate"):
+            spread = self.spread(self.made(name, crate(of), "w"))
+            spread.only_joined = True
+            if name == user:
+                spread.head = spread.head._replace(apart=spread.head.packages)
+            spread.run()
+        self.assertEqual([len(self.on(server)) for server in self.servers], [3, 4, 0])
+        head = Store(self.servers[1]).head(user)
+        assert head is not None
+        self.assertEqual((head.apart, head.sent_for()), (head.packages, set()))
+
     def test_refused(self) -> None:
         """What can't be is one line, and nothing is on any server."""
         one, two, three = self.servers
         name = self.name_at(three, "code")
         away = f"http://127.0.0.1:{free_port()}"
+        names = (f"gone{number}" for number in range(1000))
+        gone = next(one for one in names if home_of([*self.servers, away], one) == away)
         for own, servers, line in (
             (name, one, "several servers are two at least"),
             (name, f"{one},{one}/", "one server is named twice"),
             (name, f"{one},{two},x", "not the address of a server"),
             ("x" * 40, f"{one},{two},{three}", "a set's name has at most 39 characters"),
             (name, f"{one},{two}", f"{self.front.url} sends {name} to another server than"),
-            (name, f"{one},{two},{three},{away}", f"{away}: .*"),
+            (gone, f"{one},{two},{three},{away}", f"{away}: .*"),
         ):
             status, said, warned = self.publish(own, "crate", "--servers", servers)
             self.assertEqual((status, said), (2, ""), warned)
@@ -417,6 +445,38 @@ class Called(OnServers):
         status, said, warned = self.publish(name, "user")
         self.assertEqual((status, warned.count("\n")), (2, 1), warned)
         self.assertRegex(warned, "user/.codenav.toml: the values of servers are texts")
+
+    def test_another_server_away(self) -> None:
+        """What could be done is done, and what is lacking is a line."""
+        name, words = self.name_at(self.servers[0], "code"), ["--servers", ",".join(self.servers)]
+        self.running[2].end()
+        for again in False, True:
+            status, said, warned = self.publish(name, "crate", *words)
+            self.assertEqual(status, 2 - 2 * again, warned)
+            self.assertIn("a set at ", said)
+            line = (
+                f"codenav publish: {self.servers[2]} doesn't answer: publish {name} again when it"
+            )
+            self.assertEqual(line in warned, not again, warned)
+            if not again:
+                self.running[2] = self.start(self.ports[2])
+        self.assertEqual(len(self.on(self.servers[2])), 1)
+
+    def test_several_at_once(self) -> None:
+        """Other servers are asked at the same time: each waits until all are."""
+        name = self.name_at(self.servers[0], "code")
+        meet = threading.Barrier(SERVERS - 1, timeout=SECONDS)
+
+        class Meets(Store):
+            def projects(self) -> dict[str, set[str]]:
+                if self.server != home:
+                    meet.wait()
+                return super().projects()
+
+        home = self.servers[0]
+        spread = self.spread(self.made(name, crate("crate"), "w"), Meets)
+        spread.at_once = 2
+        self.assertEqual(spread.run().new, 2)
 
     def test_gone(self) -> None:
         """A surface whose set is gone isn't shown, and is when the set is there again."""
@@ -443,19 +503,27 @@ class Called(OnServers):
 
 
 class Stops(Store):
-    """Ends the process at a change to any of several servers, before it's made or after."""
+    """Stops at a change to any of several servers, before it's made or after; the process ends where
+    nothing else is said."""
 
-    def __init__(self, url: str, count: list[int], is_made: bool) -> None:
+    def __init__(
+        self,
+        url: str,
+        count: list[int],
+        is_made: bool,
+        stop: Callable[[], object] = lambda: os._exit(9),
+    ) -> None:
         super().__init__(url, retry=False)
-        self.count, self.is_made = count, is_made
+        self.count, self.is_made, self.stop = count, is_made, stop
 
     def change(self, method: str, path: str, parameters: dict[str, Any], body: bytes) -> None:
         self.count[0] -= 1
-        if self.count[0] == 0 and not self.is_made:
-            os._exit(9)
+        is_here = self.count[0] == 0
+        if is_here and not self.is_made:
+            self.stop()
         super().change(method, path, parameters, body)
-        if self.count[0] == 0 and self.is_made:
-            os._exit(9)
+        if is_here and self.is_made:
+            self.stop()
 
 
 if __name__ == "__main__":

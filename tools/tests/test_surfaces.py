@@ -2,6 +2,7 @@
 answer as on one server."""
 
 import io
+import itertools
 import json
 import os
 import random
@@ -14,13 +15,15 @@ from unittest import mock
 
 from codenav.cli.prepare import PREPARE
 from codenav.dumps.closure import reached
-from codenav.dumps.tables.graph import Graph
+from codenav.dumps.tables.graph import Graph, Key
 from codenav.faults import NotADump
 from codenav.progress import Quiet
 from codenav.sets.split.lines import Lines
 from codenav.sets.surface import found, surface
 from codenav.sets.surface.surface import write_surface
 from tests.accepted import fault
+from tests.cut_surfaces import cut_to
+from tests.dump_walks import LABELS as RESULT_LABELS
 from tests.dump_walks import OF_PROFILE, Maker, Question, Walk, answered, body_of, questions
 from tests.servers import TOP
 from tests.test_sets import Bodies, of_reply, parts_of, put_of, replayed, request_of, walks
@@ -183,6 +186,148 @@ class EqualAnswers(unittest.TestCase):
             self.assertEqual(list(case.unequal_in_program(folder)), [])
             case.servers = [{name: case.whole[name]} for name in ("crate", "user")]
             self.assertGreater(len(list(case.unequal_in_program(folder))), 10)
+
+
+KEYS = ("k", "l")
+MARKS = [(kind, key) for kind in ("import", "export") for key in KEYS]
+RESULTS = ("definition", "references", "hover")
+
+
+def small_dump(uri: str, marks: tuple[tuple[str, str], ...], results: tuple[str, ...]) -> bytes:
+    """A dump of a range with these marks, the first two of which are joined, and these results."""
+    elements: list[dict[str, Any]] = []
+
+    def add(what: str, label: str, **more: Any) -> int:
+        elements.append({"id": len(elements), "type": what, "label": label, **more})
+        return len(elements) - 1
+
+    add("vertex", "metaData", version="0.6.0")
+    document = add("vertex", "document", uri=uri)
+    ends = {name: {"line": 0, "character": at} for name, at in (("start", 0), ("end", 1))}
+    own, symbol = add("vertex", "range", **ends), add("vertex", "resultSet")
+    add("edge", "contains", outV=document, inVs=[own])
+    add("edge", "next", outV=own, inV=symbol)
+    for request in results:
+        more = {"result": {"contents": uri}} if request == "hover" else {}
+        result = add("vertex", RESULT_LABELS[request], **more)
+        add("edge", f"textDocument/{request}", outV=symbol, inV=result)
+        role = {"property": "references"} if request == "references" else {}
+        if request != "hover":
+            add("edge", "item", outV=result, inVs=[own], shard=document, **role)
+    monikers = [
+        add("vertex", "moniker", scheme="s", identifier=key, kind=kind) for kind, key in marks
+    ]
+    for moniker in monikers[:1] + monikers[2:]:
+        add("edge", "moniker", outV=symbol, inV=moniker)
+    for moniker in monikers[1:2]:
+        add("edge", "attach", outV=moniker, inV=monikers[0])
+    return body_of(elements)
+
+
+class CutToKeys(unittest.TestCase):
+    """That a surface answers as before which has only what's found by the keys that those have who
+    ask, and that nothing less does."""
+
+    def surfaces(self, body: bytes, folder: str) -> dict[tuple[str, ...], bytes]:
+        """The surfaces of a dump for who has no key, one or both."""
+        found = {}
+        for keys in ((), KEYS[:1], KEYS[1:], KEYS):
+            whole: set[Key] = {("s", key, None) for key in keys}
+            with mock.patch.object(surface, "bearers", cut_to(whole)):
+                found[keys] = surface_of(body, "1", folder)
+        return found
+
+    def test_each_small_dump(self) -> None:
+        """Each dump of a range that has any marks of two keys and any results, asked by each other
+        one."""
+        marks = [own for count in range(5) for own in itertools.combinations(MARKS, count)]
+        results = [own for count in range(4) for own in itertools.combinations(RESULTS, count)]
+        shapes = list(itertools.product(marks, results))
+        with tempfile.TemporaryDirectory() as folder:
+            theirs = [small_dump("file:///a", *shape) for shape in shapes]
+            cut = [self.surfaces(body, folder) for body in theirs]
+        whole = {
+            body: Walk(map(json.loads, body.splitlines()), "1")
+            for own in cut
+            for body in own.values()
+        }
+        smaller = 0
+        for own, at in itertools.product(marks, range(len(results))):
+            walk = Walk(
+                map(json.loads, small_dump("file:///b", own, results[at]).splitlines()), "1"
+            )
+            keys = tuple(key for key in KEYS if key in {key for _, key in own})
+            for bodies in cut:
+                full, part = bodies[KEYS], bodies[keys]
+                smaller += len(part) < len(full)
+                for request in RESULTS if part != full else ():
+                    asked = Question(request, "file:///b", (0, 0))
+                    found = [
+                        answered({"b": walk, "a": whole[body]}, "b", asked) for body in (full, part)
+                    ]
+                    self.assertEqual(found[0], found[1], (own, results[at], request))
+        self.assertGreater(smaller, 1_000)
+
+    def test_random_dumps(self) -> None:
+        """Three random dumps on several servers: each surface is cut to the keys of those there."""
+        for seed in SEEDS:
+            case = random_case(seed)
+            with tempfile.TemporaryDirectory() as folder:
+                for bodies in case.servers:
+                    own = [name for name in bodies if not name.endswith(SUFFIX)]
+                    walks_there = case.walks({name: case.whole[name] for name in own})
+                    keys = {
+                        key
+                        for walk in walks_there.values()
+                        for moniker in {moniker for _, moniker in walk.borne}
+                        for _, key in walk.marks_of(moniker)
+                    }
+                    for name in [name for name in bodies if name.endswith(SUFFIX)]:
+                        with mock.patch.object(surface, "bearers", cut_to(keys)):
+                            body = surface_of(
+                                case.whole[name.removesuffix(SUFFIX)], case.profiles[name], folder
+                            )
+                        bodies[name] = body
+            for name, question, one, other in case.unequal():
+                self.assertEqual(one, other, f"seed {seed}, {name}, {question}")
+
+    def test_the_keys_are_needed(self) -> None:
+        """A surface that is cut to none of the keys lacks answers."""
+        for seed in SEEDS[:5]:
+            case = random_case(seed)
+            for bodies in case.servers:
+                for name in [name for name in bodies if name.endswith(SUFFIX)]:
+                    bodies.pop(name)
+            self.assertTrue(any(True for _ in case.unequal()))
+
+
+class Apart(unittest.TestCase):
+    def test_crates(self) -> None:
+        """Of a package that's apart the surface of who imports it has nothing: definitions and
+        hovers are found as before, and references to its own items by one server alone. The
+        package's own surface has all of its exports."""
+        case, lost = crates(), 0
+        imports = case.whole["user"]
+        case.whole["user"] = case.servers[1]["user"] = re.sub(
+            rb'("identifier": ?"temperature::[^\n]*"kind": ?)"export"', rb'\1"import"', imports
+        )
+        with tempfile.TemporaryDirectory() as folder:
+            for name, other, apart in ("crate", 1, 0), ("user", 0, 1):
+                path, out = (os.path.join(folder, own) for own in ("whole", "surface"))
+                with open(path, "wb") as file:
+                    file.write(case.whole[name])
+                whole = surface_of(case.whole[name], "1", folder)
+                made = write_surface(path, "1", out, Quiet(), ["temperature"])[1]
+                self.assertEqual(len(made.apart_packages()), apart)
+                self.assertLessEqual(set(made.apart_packages()), set(made.joined_packages()))
+                with open(out, "rb") as file:
+                    case.servers[other][f"{name}{SUFFIX}"] = body = file.read()
+                self.assertEqual(len(body) < len(whole), bool(apart))
+        for name, question, mine, its in case.unequal():
+            self.assertEqual((name, question.request), ("crate", "references"))
+            self.assertLess(its, mine)
+            lost += 1
+        self.assertGreater(lost, 0)
 
 
 class OfItself(unittest.TestCase):

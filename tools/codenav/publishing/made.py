@@ -37,7 +37,9 @@ class Body(NamedTuple):
 class How:
     """How it's made: the dump by a shell's line that indexes, by a known indexer of a name, or from
     a file, or not at all, without documents of some patterns; `profile` is how it's read, empty
-    where the dump says; `program` checks. Nothing is asked of a server where it's a `dry_run`."""
+    where the dump says; `program` checks. Nothing is asked of a server where it's a `dry_run`. Of
+    packages with these names, `apart`, a surface has nothing that is imported. With `more` what
+    else the dump says is kept beside it."""
 
     index: str = ""
     indexer: str = ""
@@ -50,6 +52,8 @@ class How:
     set: bool = False
     revision: Optional[str] = None
     dry_run: bool = False
+    apart: str = ""
+    more: bool = False
 
 
 class Made(NamedTuple):

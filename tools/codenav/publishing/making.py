@@ -6,31 +6,28 @@ from __future__ import annotations
 
 import os
 import shutil
-from contextlib import suppress
-from typing import TYPE_CHECKING, Iterator, Optional, Union
+from typing import TYPE_CHECKING, Iterator, Optional, Union, cast
 
 from codenav.addresses import folder_address
-from codenav.dumps.check import explain
 from codenav.dumps.dump import is_scip, opened_dump, profile_of
 from codenav.dumps.lsif.reading import Source
 from codenav.dumps.prepare.plan import Options
 from codenav.dumps.prepare.prepare import prepare
 from codenav.dumps.scip.options import ScipOptions
-from codenav.faults import BadCall, NotADump, Unfit
+from codenav.faults import BadCall, Unfit
 from codenav.files import whole_file
 from codenav.index import tags_file
-from codenav.index.folder import TO_MIND
-from codenav.index.folder import How as IndexHow
-from codenav.index.folder import Indexing, NoLanguage
 from codenav.index.indexers import Choice, NotInstalled, fitting, indexed, named
 from codenav.names import set_name
 from codenav.outcome import MENDED, Outcome
-from codenav.program import Program
 from codenav.progress import Shows
+from codenav.publishing.asked import ALONE, asked_dump
+from codenav.publishing.checked import check
 from codenav.publishing.inside import folder_inside
 from codenav.publishing.made import Body, How, Made, Refused, Row, rows_of
+from codenav.publishing.more import OF_SET, add_more, without_kept
 from codenav.publishing.target import Target
-from codenav.records import Prepared, new_record
+from codenav.records import Prepared, line_of, new_record
 from codenav.sets.files import files_of
 from codenav.sets.publish.publish import fetch_cuts
 from codenav.sets.publish.store import Store
@@ -42,19 +39,10 @@ from codenav.texts.places import map_words, uri_of
 if TYPE_CHECKING:
     from codenav.dumps.scip.messages import IndexFile
 
-ALONE = "--no-index uploads tags alone"
 MISSING = {
     "lsif": "no indexer is known for what is here (--index)",
     "tags": "ctags isn't installed (Debian's universal-ctags)",
 }
-
-
-def refusal(body: Body, said: str) -> Refused:
-    """What is said of a body that the server would refuse."""
-    if body.part == "lsif":
-        with open(body.path, "rb") as dump, suppress(explain.NoFault, NotADump):
-            said = "\n".join(explain.explain(body.path, dump, explain.fault_of(said)))
-    return Refused(f"the server would refuse this {body.part}: {said}")
 
 
 class Making:
@@ -67,14 +55,20 @@ class Making:
         self.where, self.outcome, self.left_out = uri_of(folder, []), Outcome(), list[Row]()
         self.recorded: Optional[Prepared] = None
         self.inside, self.lacking = os.curdir, MISSING["lsif"]
-        self.commit, fault = indexed_at(folder, how.revision)
-        self.looks_again = not fault
+        self.here, fault = indexed_at(folder, how.revision)
+        self.said, self.looks_again = cast(Optional[str], None), not fault
         if fault:
             shows.warn(fault)
+
+    @property
+    def commit(self) -> str:
+        """The commit that the index is of: as the dump says itself, or the checkout's."""
+        return self.here if self.said is None else self.said
 
     def make(self, work: str) -> Made:
         """Makes all in a folder, and checks it. Raises Refused, BadCall and NotADump."""
         self.files = list(tags_file.files_of(self.folder))  # without what an indexer leaves there
+        self.is_set = self.is_set or not self.how.dry_run and self.target.has_set()
         raw, bodies, files = self.raw_dump(work), list[Body](), None
         if raw:
             dump = self.prepared_dump(raw, work)
@@ -82,13 +76,14 @@ class Making:
             bodies.append(Body(self.target.project, "lsif", dump, self.profile))
         elif not self.how.no_index and not self.left_out:
             self.left_out.append(Row("dump", None, self.lacking))
-        tags = "" if self.how.no_tags else self.tags(work, bool(raw) or self.how.no_index)
+        tags = "" if self.how.no_tags else self.tags(work, bool(raw))
         if tags:
             bodies.append(Body(self.target.project, "tags", tags, None))
-        if raw:
-            self.look_again()
+        self.look_again(tags)
         if not bodies:
-            nothing = "no indexer is known for what is here, and there are no tags"
+            nothing = "there are no tags"
+            if not self.how.no_index:
+                nothing = f"no indexer is known for what is here, and {nothing}"
             whys = [row.why for row in self.left_out if row.why not in MISSING.values()]
             raise BadCall(f"{self.folder}: {'; '.join([nothing, *whys])}")
         if self.is_set:
@@ -97,7 +92,7 @@ class Making:
             files = self.split(dump, tags, os.path.join(work, "set"))
             bodies = [*self.parts(files), *self.surface(files, dump)]
             self.outcome = files.reading if is_scip(dump) else self.outcome
-        self.check(bodies)
+        check(bodies, self.how.program, self.profile, self.shows)
         rows = (*rows_of(self.outcome, self.profile), *self.left_out)
         places = self.where, self.inside, self.commit
         return Made(self.folder, tuple(bodies), files, self.profile, *places, rows)
@@ -127,26 +122,12 @@ class Making:
         return Choice(named(self.how.indexer), ()) if self.how.indexer else fitting(self.folder)
 
     def asked_dump(self, work: str, fault: Optional[NotInstalled]) -> str:
-        """The file with the dump that is made by asking language servers; empty where there's none.
-        Raises BadCall where an indexer that isn't installed is of another language than these."""
-        try:
-            indexing = Indexing(self.folder, IndexHow(), self.shows)
-        except BadCall as other:
-            if fault is not None:
-                raise BadCall(f"{fault}; {ALONE}") from None
-            self.lacking = MISSING["lsif"] if isinstance(other, NoLanguage) else str(other)
-            return ""
-        if fault is not None:
-            if not any(language.indexer in fault.programs for language, _ in indexing.servers):
-                raise BadCall(f"{fault}; {ALONE}")
-            self.shows.warn(f"{fault}: a language server is asked")
-        path = os.path.join(work, "asked.lsif")
-        outcome = indexing.write(path, work)
-        for note in outcome.notes:
-            if note.kind == TO_MIND:
-                self.shows.warn(str(note))
-        self.left_out += rows_of(outcome, "2")
-        return path
+        """The file with the dump that is made without an indexer; empty where there's none."""
+        asked = asked_dump(self.folder, work, fault, self.shows)
+        if asked.lacking:
+            self.lacking = asked.lacking
+        self.left_out += asked.left_out
+        return asked.path
 
     def prepared_dump(self, raw: str, work: str) -> str:
         """The file of the dump that is uploaded, which is a set's where it's too large for one
@@ -161,6 +142,10 @@ class Making:
         dump = os.path.join(work, "dump.lsif")
         outcome = self.prepare(raw, dump)
         self.is_set = self.is_set or bool(outcome.over)
+        if self.how.more:
+            left = [OF_SET] if self.is_set else add_more(raw, dump)
+            self.left_out += left
+            outcome = outcome if left else without_kept(outcome)
         is_over = not self.is_recorded(dump) or bool(outcome.over)
         self.is_set = self.is_set or is_over
         if is_over and is_split:
@@ -201,31 +186,34 @@ class Making:
         Raises BadCall where the call names another one.
         """
         dump = Prepared(path)
+        if not dump.documents:
+            raise BadCall(f"{self.folder}: the index has no documents: {ALONE}")
         self.where = dump.root or self.where
         self.inside = folder_inside(self.folder, self.where, dump.documents)
         if dump.is_recorded:
-            own, self.looks_again = dump.record.revision if dump.record else "", False
-            if self.how.revision and own != self.commit:
-                of = f"revision {own}" if own else "no revision"
-                said = f"the dump says itself that it's of {of}, and not of {self.how.revision}"
-                raise BadCall(said)
-            self.commit = own
+            self.said = dump.record.revision if dump.record else ""
+            if self.how.revision and self.said != self.here:
+                of = f"revision {self.said}" if self.said else "no revision"
+                raise BadCall(
+                    f"the dump says itself that it's of {of}, and not of {self.how.revision}"
+                )
         if self.is_set or dump.is_recorded:
             return True
         self.recorded = dump if dump.add(new_record(self.commit, self.where)) else None
         return self.recorded is not None
 
-    def look_again(self) -> None:
+    def look_again(self, tags: str) -> None:
         """Has the index be of no revision where the checkout changed while it was made, but where
-        the call or the dump names one; says so."""
-        if not self.looks_again:
-            return
-        self.commit, fault = still_indexed_at(self.folder, self.commit, self.how.revision)
-        if not fault:
-            return
-        self.shows.warn(fault)
-        if self.recorded is not None:
-            self.recorded.add(new_record(self.commit, self.where))
+        the call or the dump names one; says so. Adds to tags of which they are."""
+        if self.looks_again:
+            self.here, fault = still_indexed_at(self.folder, self.here, self.how.revision)
+            if fault and self.said is None:
+                self.shows.warn(fault)
+                if self.recorded is not None:
+                    self.recorded.add(new_record(self.commit, self.where))
+        if tags and not self.is_set:
+            with open(tags, "ab") as file:
+                file.write(line_of(self.here))
 
     def tags(self, work: str, may_be_empty: bool) -> str:
         """The tags file of the checkout; empty where there's none."""
@@ -245,16 +233,15 @@ class Making:
     def split(self, dump: str, tags: str, folder: str) -> SetFiles:
         """Splits a dump or an index and the tags into the parts of a set, which keeps the cuts of
         the set on the server. Raises Refused."""
-        name, maps = set_name(self.target.project), (
-            map_words(self.where, os.path.join(self.folder, self.inside)),
-        )
+        name = set_name(self.target.project)
+        words = map_words(self.where, os.path.join(self.folder, self.inside))
         if not self.how.dry_run:
             fetch_cuts(Store(self.target.home), name, folder)
         options = SplitOptions(
             name,
             self.profile,
             self.commit,
-            maps,
+            (words,),
             tags,
             self.folder,
             shown=f"the dump of {self.folder}",
@@ -278,23 +265,10 @@ class Making:
         if not self.target.servers:
             return []
         own = os.path.join(files.folder, "surface")
-        surface = made_surface(dump, files.head.name, self.profile, own, self.shows)
+        apart = [name for name in self.how.apart.split(",") if name]
+        surface = made_surface(dump, files.head.name, self.profile, own, self.shows, apart=apart)
         keep_surface(files.folder, surface)
         return [
             Body(part.project, "lsif", surface_file(own, part.project), self.profile)
             for part in surface.parts
         ]
-
-    def check(self, bodies: list[Body]) -> None:
-        """Checks what is uploaded, where the program is at hand. Raises Refused."""
-        program = Program.found(self.how.program)
-        if program is None:
-            text = "not checked before the upload, for the program isn't at hand (--program)"
-            self.shows.warn(text)
-            return
-        for body in bodies:
-            self.shows.begin(f"checked {body.part}")
-            is_accepted, said = program.check(body.part, body.path, self.profile)
-            if not is_accepted:
-                raise refusal(body, said)
-            self.shows.end(said)

@@ -15,10 +15,14 @@ from codenav.outcome import Excess
 from codenav.progress import Quiet, Shows
 from codenav.publishing.made import Body, Made, Refused
 from codenav.publishing.target import Target
-from codenav.sets.publish.base import remove_set
-from codenav.sets.publish.publish import Publish, Report
+from codenav.sets.publish.plan import Report
+from codenav.sets.publish.publish import Publish
 from codenav.sets.publish.spread import Spread
 from codenav.sets.publish.store import Store
+
+
+BRIEF = 60.0
+"""For so long another server than a set's home is waited for."""
 
 
 @dataclass(frozen=True)
@@ -32,13 +36,13 @@ class Accepted:
 
 
 class Sent(NamedTuple):
-    """What was uploaded: bodies of a project, and how many parts its set had that was there, or a
-    set; `lacking` are the sets elsewhere that it's joined to, whose surfaces its home hasn't."""
+    """What was uploaded: bodies of a project, or a set; `lacking` are the sets elsewhere that it's
+    joined to, whose surfaces its home hasn't, and `away` the servers that didn't answer."""
 
     accepted: tuple[Accepted, ...] = ()
-    removed: int = 0
     report: Optional[Report] = None
     lacking: tuple[str, ...] = ()
+    away: tuple[str, ...] = ()
 
 
 class Watched(io.FileIO):
@@ -98,7 +102,8 @@ def send_body(server: str, body: Body, shows: Shows) -> Accepted:
     if answer.status != 200:
         raise Refused("\n".join([refusal_of(answer), *map(str, over)]))
     shows.end(f"{size} bytes")
-    return Accepted(body.project, body.part, found_in(answer, "count"), body.profile)
+    count = found_in(answer, "count") - (body.part == "tags")  # without the record
+    return Accepted(body.project, body.part, count, body.profile)
 
 
 def publish_of(target: Target, folder: str) -> Publish:
@@ -111,7 +116,7 @@ def publish_of(target: Target, folder: str) -> Publish:
         home,
         folder,
         in_place_of_project=True,
-        others=[Store(other) for other in target.servers if other != target.home],
+        others=[Store(own, seconds=BRIEF) for own in target.servers if own != target.home],
         surface=os.path.join(folder, "surface"),
         front=Store(target.front) if target.front else None,
         only_joined=target.only_joined,
@@ -119,14 +124,15 @@ def publish_of(target: Target, folder: str) -> Publish:
 
 
 def send(made: Made, target: Target, shows: Shows) -> Sent:
-    """Uploads what was made, each in the place of the other: a set in that of a project, and a
-    project that has become small enough in that of its set. Raises Refused and BadCall."""
+    """Uploads what was made, a set in the place of a project of its name. Raises Refused and
+    BadCall."""
     if made.files is None:
-        accepted = tuple(send_body(target.home, body, shows) for body in made.bodies)
-        return Sent(accepted, remove_set(Store(target.home), target.project))
+        return Sent(tuple(send_body(target.home, body, shows) for body in made.bodies))
     publish = publish_of(target, made.files.folder)
     shows.begin("published parts")
     report = publish.run()
     shows.end(report.line())
-    lacking = tuple(publish.lacking) if isinstance(publish, Spread) else ()
-    return Sent(report=report, lacking=lacking)
+    if not isinstance(publish, Spread):
+        return Sent(report=report)
+    away = tuple(store.server for store in publish.away)
+    return Sent(report=report, lacking=tuple(publish.lacking), away=away)

@@ -4,7 +4,8 @@ from dataclasses import dataclass
 
 from codenav.client.http import address, found_in, request_again
 from codenav.faults import BadCall
-from codenav.names import new_project, server_of, set_name, stored_name
+from codenav.names import SET, new_project, server_of, set_name, stored_name
+from codenav.sets.publish.store import Store
 from codenav.sets.ring import home_of, named_in_front
 from codenav.sets.surface.made import surface_name
 
@@ -36,12 +37,18 @@ class Target:
         is_front = named_in_front(self.server) not in map(named_in_front, self.servers)
         return self.server if is_front else ""
 
+    def has_set(self) -> bool:
+        """Whether there is a set of this name, which stays one up to its removal, however small.
+        Raises NoReply."""
+        is_name = SET.fullmatch(self.project) is not None
+        return is_name and Store(self.home).mark(self.project) is not None
+
     def reach(self) -> None:
-        """Asks each server for a name, whose answer is short. Raises NoReply where one doesn't
-        answer."""
+        """Asks the server that gets it for a name, whose answer is short, and the front. Raises
+        NoReply where one doesn't answer."""
         own = stored_name(self.project)
         asked = {"name": own, "project": own}
-        for server in self.servers or (self.server,):
+        for server in filter(None, (self.home, self.front if self.servers else "")):
             found_in(request_again(address(server, "/names", asked), "GET"), "tags")
 
 

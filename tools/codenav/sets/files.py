@@ -8,9 +8,10 @@ from typing import Callable, Iterator, Sequence
 from urllib.parse import quote
 
 from codenav.addresses import serialized
-from codenav.faults import BadCall
+from codenav.faults import BadCall, Unfit
 from codenav.files import whole_file
-from codenav.names import PARTS
+from codenav.limits import MOST_BODY_BYTES, MOST_TAG_BYTES
+from codenav.names import PARTS, shown_name
 from codenav.sets.manifest import (
     ABOUT,
     DOCUMENT,
@@ -21,11 +22,8 @@ from codenav.sets.manifest import (
     Tag,
     content_digest,
     document_lines,
-    fields_of,
     head_lines,
     head_of,
-    listed,
-    needs_lists,
     part_name,
     tag_of,
     tags_text,
@@ -33,6 +31,9 @@ from codenav.sets.manifest import (
 from codenav.texts.places import KEPT, Maps, uri_of
 
 MANIFEST = "manifest.tags"
+MOST_LINES, LIST_LINES = 99_000, 20_000
+MOST_BYTES = MOST_BODY_BYTES - (1 << 20)
+"""Of a manifest or a list; a manifest that only gets another mark and version has room for it."""
 
 
 def tags_in(path: str) -> list[Tag]:
@@ -68,7 +69,7 @@ def read_documents(path: str, head: Head) -> list[DocumentEntry]:
     folder = os.path.dirname(path)
     paths = [os.path.join(folder, f"{one.project}.tags") for one in head.lists] or [path]
     return [
-        DocumentEntry(tag["name"][1:], tag["file"], fields_of(tag).get("text", ""))
+        DocumentEntry(tag["name"][1:], tag["file"])
         for own in paths
         for tag in tags_in(own)
         if tag["name"][:1] == DOCUMENT
@@ -103,20 +104,52 @@ def put_file(path: str, body: bytes) -> None:
         out.write(body)
 
 
+def listed(documents: Sequence[DocumentEntry]) -> Iterator[tuple[str, bytes]]:
+    """The tags files of lists of documents, each with the address of its first."""
+    first, size, lines = "", 0, list[str]()
+    for document, line in zip(documents, document_lines(documents)):
+        length = len(line.encode("utf-8", "surrogatepass"))
+        if lines and (len(lines) == LIST_LINES or size + length > MOST_BYTES):
+            yield first, tags_text(lines)
+            size, lines = 0, []
+        first, size = first if lines else document.uri, size + length
+        lines.append(line)
+    yield first, tags_text(lines)
+
+
 def manifest_of(
     head: Head, documents: Sequence[DocumentEntry], named: Callable[[str], str]
 ) -> tuple[Head, dict[str, bytes], bytes]:
     """A manifest: its head, the lists of documents by their projects, where they are too many for
-    one file, and the manifest itself. `named` says the project of a list by its digest."""
-    if not needs_lists(len(documents), len(head.parts)):
-        return head, {}, tags_text([*head_lines(head), *document_lines(documents)])
+    one file, and the manifest itself. `named` says the project of a list by its digest. Raises
+    Unfit where the server doesn't take it."""
+    lines = [*head_lines(head), *document_lines(documents)]
+    body = tags_text(lines)
+    refuse_long(body)
+    if len(lines) <= MOST_LINES and len(body) <= MOST_BYTES:
+        return head, {}, body
     lists, bodies = [], {}
-    for first, body in listed(documents):
-        digest = content_digest(body)
+    for first, own in listed(documents):
+        digest = content_digest(own)
         lists.append(ListEntry(named(digest), first, digest))
-        bodies[lists[-1].project] = body
+        bodies[lists[-1].project] = own
     head = head._replace(lists=tuple(lists))
-    return head, bodies, tags_text(head_lines(head))
+    body = tags_text(head_lines(head))
+    refuse_long(body)
+    if len(body) > MOST_BYTES:
+        said = f"the manifest of the set {shown_name(head.name)} has {len(body)} bytes"
+        raise Unfit(
+            f"{said}, more than {MOST_BYTES}: its addresses are too long, or its parts too many"
+        )
+    return head, bodies, body
+
+
+def refuse_long(body: bytes) -> None:
+    """Refuses lines of tags that the server doesn't take."""
+    longest = max(body.split(b"\n"), key=len)
+    if len(longest) > MOST_TAG_BYTES:
+        text = f"an address makes {len(longest)} bytes, which no line of tags may have"
+        raise Unfit(f"{longest[4:100].decode(errors='replace')}..: {text}")
 
 
 def put_manifest(folder: str, head: Head, documents: Sequence[DocumentEntry]) -> Head:

@@ -9,10 +9,10 @@ Its names begin with a control character, so that no search for names finds them
   its content;
 - U+0002 and `surface`: a part of the set's surface, which is on other servers, as a part is said;
 - U+0002 and `package`: where the set is one of several servers', a package that it imports or
-  exports something of;
+  exports something of, and whether its surface has nothing of that (`apart`);
 - U+0002 and `list`: where the documents are too many for one tags file, a project with some of
   them, with the address of the first and a digest;
-- U+0001 and an address: a document, with the part that has it and a digest of its text.
+- U+0001 and an address: a document, with the part that has it.
 
 The file of each tag is the project that it names.
 """
@@ -20,7 +20,8 @@ The file of each tag is the project that it names.
 import hashlib
 import re
 from bisect import bisect_right
-from typing import Any, Iterable, Iterator, Mapping, NamedTuple, Optional, Sequence
+from os.path import commonprefix
+from typing import Any, Iterable, Mapping, NamedTuple, Optional
 
 from codenav.faults import BadCall
 from codenav.names import PART, PARTS, shown_name
@@ -30,9 +31,7 @@ TOOL = "codenav-split-lsif-1"
 SORTED = "!_TAG_FILE_SORTED\t1\t/0=unsorted, 1=sorted/\n"
 DOCUMENT, ABOUT = "\x01", "\x02"
 PACKAGE = f"{ABOUT}package"
-MOST_LINES = 99_000
 DIGITS = 16
-LIST_LINES = 20_000
 SURFACE = "-surface"
 Tag = dict[str, Any]
 
@@ -52,12 +51,10 @@ class PartEntry(NamedTuple):
 
 
 class DocumentEntry(NamedTuple):
-    """A document: its address, the project of its part, and a digest of its text, empty where that
-    wasn't read."""
+    """A document: its address, and the project of its part."""
 
     uri: str
     project: str
-    text: str = ""
 
 
 class ListEntry(NamedTuple):
@@ -85,6 +82,7 @@ class Head(NamedTuple):
     surface: tuple[PartEntry, ...] = ()
     packages: tuple[str, ...] = ()
     version: int = 0
+    apart: tuple[str, ...] = ()
 
     def projects(self) -> list[str]:
         """The projects of the set but for its manifest."""
@@ -93,6 +91,10 @@ class Head(NamedTuple):
     def surface_projects(self) -> list[str]:
         """The projects of the surface, which are on other servers."""
         return [part.project for part in self.surface]
+
+    def sent_for(self) -> set[str]:
+        """The packages for which the surface goes to those who have something of them."""
+        return set(self.packages) - set(self.apart)
 
     def is_spread(self) -> bool:
         """Whether the set is on one of several servers, with its surface on the others."""
@@ -104,9 +106,12 @@ class Head(NamedTuple):
         ordered = [part.first.encode() for part in self.parts]
         return self.parts[max(bisect_right(ordered, uri.encode()) - 1, 0)].project
 
-    def holders(self) -> list[str]:
-        """The projects whose tags have the documents."""
-        return [one.project for one in self.lists] or [self.name + PARTS]
+    def like(self, uri: str) -> str:
+        """A document that is there, of those that parts begin with: the one whose address has most
+        folders in common with another at its end."""
+        own = uri.split("/")[::-1]
+        firsts = (part.first for part in self.parts)
+        return max(firsts, key=lambda one: len(commonprefix([own, one.split("/")[::-1]])))
 
     def names(self) -> dict[str, str]:
         """The projects of the parts, the lists and the surface by the digests of their contents."""
@@ -182,7 +187,11 @@ def head_lines(head: Head) -> list[str]:
             fields = [("elements", str(part.elements)), ("first", part.first)]
             fields.append(("digest", part.digest))
             lines.append(line_of(f"{ABOUT}{kind}", part.project, fields))
-    lines += [line_of(PACKAGE, head.name, [("package", package)]) for package in head.packages]
+    apart = {package: [("apart", "yes")] for package in head.apart}
+    lines += [
+        line_of(PACKAGE, head.name, [("package", package), *apart.get(package, [])])
+        for package in head.packages
+    ]
     lines += [
         line_of(f"{ABOUT}list", one.project, [("first", one.first), ("digest", one.digest)])
         for one in head.lists
@@ -192,25 +201,13 @@ def head_lines(head: Head) -> list[str]:
 
 def document_lines(documents: Iterable[DocumentEntry]) -> list[str]:
     """The lines on documents."""
-    return [line_of(f"{DOCUMENT}{one.uri}", one.project, [("text", one.text)]) for one in documents]
+    return [line_of(f"{DOCUMENT}{one.uri}", one.project, ()) for one in documents]
 
 
 def tags_text(lines: Iterable[str]) -> bytes:
     """A tags file of lines."""
     encoded = sorted(line.encode("utf-8", "surrogatepass") for line in lines)
     return SORTED.encode() + b"".join(encoded)
-
-
-def needs_lists(documents: int, parts: int) -> bool:
-    """Whether documents and parts are too many for one tags file."""
-    return documents + parts > MOST_LINES
-
-
-def listed(documents: Sequence[DocumentEntry]) -> Iterator[tuple[str, bytes]]:
-    """The tags files of lists of documents, each with the address of its first."""
-    for at in range(0, len(documents), LIST_LINES):
-        some = documents[at : at + LIST_LINES]
-        yield some[0].uri, tags_text(document_lines(some))
 
 
 def fields_of(tag: Tag) -> dict[str, str]:
@@ -266,13 +263,16 @@ def head_of(tags: Iterable[Tag], project: str, with_old: bool = False) -> Option
         ]
         lists.sort(key=lambda one: one.first.encode())
         packages = sorted(map(package_of, filter(is_package, found)))
+        apart = [package_of(tag) for tag in filter(is_package, found) if "apart" in fields_of(tag)]
         revision, folder, tool, mark = (
             fields.get(key, "") for key in ("revision", "folder", "tool", "mark")
         )
         count, profile = int(fields["documents"]), fields.get("profile", "1")
         version, own_format = int(fields.get("version", "0")), fields["format"]
         about_it = name, revision, folder, count, tool, mark, profile
-        head = Head(*about_it, parts, tuple(lists), surface, tuple(packages), version)
+        head = Head(
+            *about_it, parts, tuple(lists), surface, tuple(packages), version, tuple(sorted(apart))
+        )
     except (KeyError, IndexError, TypeError, ValueError):
         raise NotAManifest(
             f"{project} isn't the manifest of a set: somebody else wrote it"

@@ -45,6 +45,7 @@ class Moving(Spread):
         known = self.heads.get(home)
         base = base_of_head(known) if known else read_base(home, name)
         self.plan = self.planned(base, home.there)
+        self.there = {place: place.there for place in self.places}
 
     def known_names(self, base: Base) -> Mapping[str, str]:
         asked = self.heads[self.asked] if self.asked else None
@@ -89,11 +90,11 @@ class Moving(Spread):
     def put_surfaces(self) -> None:
         """Puts the surface where it's lacking."""
         for store in self.others:
-            self.put_surface(self.plan, store, store.projects())
+            self.put_surface(self.plan, store)
 
     def put_home(self) -> None:
         """Puts the parts that the home hasn't."""
-        Publish.put_parts(self, self.plan, {self.home: self.home.there})
+        Publish.put_parts(self, self.plan)
 
     def put_head(self) -> None:
         """Puts the manifest at the home."""

@@ -12,83 +12,43 @@ from dataclasses import dataclass, field
 from typing import Mapping
 
 from codenav.faults import BadCall, NoReply
-from codenav.names import PARTS, shown_name
+from codenav.names import PARTS
 from codenav.sets.files import MANIFEST, files_of, manifest_of, put_file, read_documents, read_head
 from codenav.sets.manifest import (
     DOCUMENT,
     DocumentEntry,
-    Head,
     NotAManifest,
     content_digest,
     document_lines,
-    fields_of,
     head_lines,
+    is_same,
     tags_text,
 )
 from codenav.sets.publish.base import Base, Late, read_base
+from codenav.sets.publish.plan import Files, Plan, Report, There
 from codenav.sets.publish.store import Store
 
-Files = Mapping[str, str]
-"""The files of a project: its dump, its tags or both."""
-There = dict[str, set[str]]
-"""The projects of a server, each with the parts that it has."""
 NO_ROOM = ("S01", "S02")
 TRIES = 5
 LOOKED_AT = 50
 """After so many parts it's looked whether another publish was faster."""
-CROWD = 4
-
-
-@dataclass
-class Report:
-    """What a publish did: how many parts there are, and which of them were there before, were put
-    and were removed."""
-
-    parts: int = 0
-    kept: int = 0
-    new: int = 0
-    removed: int = 0
-
-    def line(self) -> str:
-        """The report as it's printed."""
-        return f"parts {self.parts}, kept {self.kept}, new {self.new}, removed {self.removed}"
-
-
-@dataclass
-class Plan:
-    """A set as it's put for a base: its head, the manifest, the files of its parts and the bodies
-    of its lists, by their names."""
-
-    base: Base
-    head: Head
-    body: bytes
-    files: dict[str, Files]
-    lists: dict[str, bytes]
-
-    def lacks(self, there: There) -> bool:
-        """Whether a server hasn't all of it."""
-        return any(
-            not files.keys() <= there.get(own, set()) for own, files in self.files.items()
-        ) or (not self.lists.keys() <= there.keys())
-
-    def others(self, there: There) -> int:
-        """How much is there that was put for its base and isn't its own."""
-        own = self.head.digests()
-        return sum(self.base.is_own(project) and project not in own for project in there)
-
-    def is_crowded(self, there: There) -> bool:
-        """Whether that's much more than is its own."""
-        return self.others(there) > CROWD * len(self.head.digests())
+NEVER_PUT = "-ffffffffffffffff"
+"""Of a set's name it makes that of a part that is never put: keys are used up there."""
+BEGUN, SWEPT = "begun", "swept"
+"""What is noted of a base: that parts may have been put for it; and that nothing was left beside
+it."""
 
 
 @dataclass
 class Publish:
-    """A publish of the set in a folder to a server."""
+    """A publish of the set in a folder to a server. `there` is what was on each server before it
+    began, and what it put and removed since."""
 
     store: Store
     folder: str
     in_place_of_project: bool = False
     report: Report = field(default_factory=Report)
+    there: dict[Store, There] = field(default_factory=dict)
     is_switched: bool = False
     has_made_room: bool = False
     mark: str = ""
@@ -110,35 +70,63 @@ class Publish:
                 # one that came between the reading and the list is looked at again
                 if not left:
                     raise
-        else:
-            text = "was published again and again, and parts of it are gone"
-            raise BadCall(f"the set {shown_name(self.head.name)} {text}")
         self.report.parts = len(self.head.projects())
         self.report.kept = max(self.report.parts - self.report.new, 0)
         return self.report
 
     def is_done(self) -> bool:
-        """Publishes the set for what is there now; answers whether all that is named is there
-        then."""
+        """Publishes the set for what is there now; answers whether it's done."""
         base = read_base(self.store, self.head.name)
-        there = self.listed()
-        self.refuse_others(base, there[self.store])
-        plan = self.planned(base, there[self.store])
-        if not self.has_made_room and plan.is_crowded(there[self.store]):
-            self.make_room(plan, there[self.store])
+        if self.is_unchanged(base):
+            return True
+        self.there = self.listed()
+        there = self.there[self.store]
+        self.refuse_others(base, there)
+        plan = self.planned(base, there)
+        if not self.has_made_room and plan.is_crowded(there):
+            self.make_room(plan)
             return False
+        self.note(BEGUN, base)
         try:
-            self.put_parts(plan, there)
+            self.put_parts(plan)
             self.put_manifest(plan)
         except Late:
             self.sweep()
             raise
         except NoReply as fault:
             has_room = not any(f"{code} " in str(fault) for code in NO_ROOM)
-            if has_room or self.has_made_room or not self.make_room(plan, there[self.store]):
+            if has_room or self.has_made_room or not self.make_room(plan):
                 raise
             return False
-        return not plan.lacks(self.sweep())
+        self.sweep()
+        return True
+
+    def is_unchanged(self, base: Base) -> bool:
+        """Whether the set is there as it's to be published, with nothing of another one. It's found
+        without a list of the projects, which may be many."""
+        head = base.head
+        return (
+            head is not None
+            and is_same(head, self.head)
+            and self.is_noted(self.front_or_home, SWEPT, base)
+            and not self.is_noted(self.store, BEGUN, base)
+            and not self.store.has_dump(base.name)
+            and all(self.store.has_dump(part.project) for part in head.parts)
+            and all(self.store.tags(one.project, DOCUMENT + one.first) for one in head.lists)
+        )
+
+    def note(self, what: str, base: Base) -> None:
+        """Notes something of what is there, by a key that is used up."""
+        self.store.remove(base.name + NEVER_PUT, f"{what}-{base.key}")
+
+    def is_noted(self, store: Store, what: str, base: Base) -> bool:
+        """Whether that was noted, as a server says."""
+        return store.is_used(base.name + NEVER_PUT, f"{what}-{base.key}")
+
+    @property
+    def front_or_home(self) -> Store:
+        """The server that all ask."""
+        return self.store
 
     def listed(self) -> dict[Store, There]:
         """The projects of the servers."""
@@ -189,22 +177,24 @@ class Publish:
         files: dict[str, Files] = {projects[one]: own for one, own in self.files.items()}
         return Plan(base, made[0], made[2], files, made[1])
 
-    def put_parts(self, plan: Plan, there: Mapping[Store, There]) -> None:
+    def put_parts(self, plan: Plan) -> None:
         """Puts what isn't there."""
-        own = there[self.store]
-        self.report.new += self.put_files(plan, self.store, plan.files, own)
-        for project in sorted(plan.lists.keys() - own.keys()):
+        there = self.there[self.store]
+        self.report.new += self.put_files(plan, self.store, plan.files)
+        for project in sorted(plan.lists.keys() - there.keys()):
+            there[project] = {"tags"}
             self.store.put(project, "tags", plan.lists[project], secrets.token_hex(16))
             self.report.new += 1
 
-    def put_files(self, plan: Plan, store: Store, files: Mapping[str, Files], there: There) -> int:
+    def put_files(self, plan: Plan, store: Store, files: Mapping[str, Files]) -> int:
         """Puts the files of projects that a server hasn't; answers of how many projects. Raises
         Late where another publish was faster."""
-        count, digests = 0, plan.head.digests()
+        count, digests, there = 0, plan.head.digests(), self.there[store]
         for project, own in files.items():
             missing = [part for part in own if part not in there.get(project, ())]
             bodies = self.bodies_of(own, digests[project]) if missing else {}
             for part in missing:
+                there.setdefault(project, set()).add(part)
                 profile = self.head.profile if part == "lsif" else "1"
                 store.put(project, part, bodies[part], secrets.token_hex(16), profile)
             count += bool(missing)
@@ -237,10 +227,10 @@ class Publish:
             raise Late(name)
         self.is_switched, self.mark = True, plan.head.mark
 
-    def make_room(self, plan: Plan, there: There) -> bool:
+    def make_room(self, plan: Plan) -> bool:
         """Removes what other publishes left at the home; answers whether there was something."""
         self.has_made_room, before = True, self.report.removed
-        if plan.others(there):
+        if plan.others(self.there[self.store]):
             self.fence(plan.base)
         self.sweep()
         return self.report.removed > before
@@ -253,23 +243,29 @@ class Publish:
             self.store.remove(name, base.key)
         else:
             documents = [
-                DocumentEntry(tag["name"][1:], tag["file"], fields_of(tag).get("text", ""))
+                DocumentEntry(tag["name"][1:], tag["file"])
                 for tag in self.store.tags(name, DOCUMENT)
             ]
             head = base.head._replace(mark=secrets.token_hex(16), version=base.version + 1)
             body = tags_text([*head_lines(head), *document_lines(documents)])
             self.store.put(name, "tags", body, base.key)
 
-    def sweep(self) -> There:
-        """Removes what can't be named any more; answers what is there of the set's home."""
-        listed = self.listed()
+    def sweep(self) -> None:
+        """Removes what can't be named any more, of what was listed before the base is read; where
+        the set that was published is still the one that's there, it's noted that nothing else is.
+        """
         base = read_base(self.store, self.head.name)
-        for store, there in listed.items():
-            self.sweep_at(store, there, base)
-        return listed[self.store]
+        if self.is_all_swept(base) and self.is_switched and base.mark == self.mark:
+            self.note(SWEPT, base)
 
-    def sweep_at(self, store: Store, there: There, base: Base) -> None:
-        """The same of one server, of which this was listed before the base was read."""
+    def is_all_swept(self, base: Base) -> bool:
+        """Does it at each server; answers whether all could be asked."""
+        self.sweep_at(self.store, base)
+        return True
+
+    def sweep_at(self, store: Store, base: Base) -> None:
+        """The same of one server."""
+        there = self.there[store]
         todo = base.garbage(there, [base.name], base.names())
         for project in todo:
             store.remove(project)

@@ -106,7 +106,7 @@ class Relocation:
         """The servers that are to have the surface of a set, or None for all others."""
         if self.at_home is None:
             return None
-        return set().union(*(self.at_home[package] for package in head.packages))
+        return set().union(*(self.at_home[package] for package in head.sent_for()))
 
     def look(self) -> None:
         """Finds what is to be put, and what is wrong."""

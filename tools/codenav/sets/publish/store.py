@@ -6,27 +6,54 @@ import secrets
 from contextlib import contextmanager
 from typing import Any, Iterator, Optional
 
-from codenav.client.http import address, found_in, refusal_of, request, request_again
-from codenav.faults import NoReply
+from codenav.client.http import (
+    AGAIN,
+    SECONDS,
+    Answer,
+    address,
+    found_in,
+    refusal_of,
+    reply_in,
+    request,
+    request_again,
+)
+from codenav.faults import NO_DUMP, NoReply
 from codenav.names import PARTS
 from codenav.sets.manifest import ABOUT, Head, head_of, mark_in
+
+
+class Silent(NoReply):
+    """A request that no answer of the server came to."""
+
+
+def answered(answer: Answer) -> Answer:
+    """An answer that the server gave; raises Silent where it gave none."""
+    if not answer.status or answer.status in AGAIN and "fault" not in (reply_in(answer) or {}):
+        raise Silent(refusal_of(answer))
+    return answer
 
 
 class Store:
     """The requests of a publish to a server."""
 
-    def __init__(self, server: str, retry: bool = True) -> None:
-        self.server, self.retry = server, retry
+    def __init__(self, server: str, retry: bool = True, seconds: float = SECONDS) -> None:
+        self.server, self.retry, self.seconds = server, retry, seconds
+
+    def ask(self, method: str, path: str, parameters: dict[str, Any], body: bytes = b"") -> Answer:
+        """Sends a request, and a change again where no answer comes."""
+        url = address(self.server, path, parameters)
+        if method == "GET":
+            return request(url, seconds=self.seconds)
+        content = io.BytesIO(body) if method == "PUT" else None
+        return request_again(url, method, content, self.retry)
 
     def found(self, path: str, parameters: dict[str, Any], member: str) -> Any:
-        """What a query finds."""
-        return found_in(request(address(self.server, path, parameters)), member)
+        """What a query finds. Raises Silent where no answer comes within the time limit."""
+        return found_in(answered(self.ask("GET", path, parameters)), member)
 
     def change(self, method: str, path: str, parameters: dict[str, Any], body: bytes) -> None:
         """Makes a change; raises NoReply where it isn't made, and a repeated one is made once."""
-        url = address(self.server, path, parameters)
-        content = io.BytesIO(body) if method == "PUT" else None
-        answer = request_again(url, method, content, self.retry)
+        answer = answered(self.ask(method, path, parameters, body))
         if answer.status != 200:
             raise NoReply(refusal_of(answer))
 
@@ -69,6 +96,16 @@ class Store:
         except (KeyError, TypeError, AttributeError):
             text = f"{self.server}: not a reply of codenav as these tools know it"
             raise NoReply(text) from None
+
+    def has_dump(self, project: str) -> bool:
+        """Whether a project has a dump."""
+        try:
+            self.found(f"/projects/{project}/profile", {}, "profile")
+        except NoReply as fault:
+            if fault.code() != NO_DUMP:
+                raise
+            return False
+        return True
 
     def tags(self, project: str, prefix: str) -> list[dict[str, Any]]:
         """The tags of a project whose names begin with a text."""

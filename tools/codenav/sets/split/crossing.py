@@ -81,7 +81,7 @@ class Cut:
 
     def part_of(self, rank: int) -> int:
         """The part that has a range."""
-        return bisect_right(self.borders, rank) - 1
+        return bisect_right(self.borders, rank, 0, self.parts) - 1
 
     def mask(self, result: int) -> int:
         """The parts that have places of a result, as bits."""

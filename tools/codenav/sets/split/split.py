@@ -9,7 +9,6 @@ a manifest, its cuts are kept while the parts fit.
 from __future__ import annotations
 
 import gc
-import hashlib
 import os
 import tempfile
 from contextlib import contextmanager
@@ -24,13 +23,13 @@ from codenav.limits import MOST_ELEMENTS
 from codenav.outcome import Outcome
 from codenav.progress import Shows
 from codenav.sets.files import MANIFEST, drop_others, put_manifest, read_head, unchanged_at_fault
-from codenav.sets.manifest import DIGITS, DocumentEntry, Head, PartEntry
+from codenav.sets.manifest import DocumentEntry, Head, PartEntry
 from codenav.sets.split.crossing import Cut, Shared
 from codenav.sets.split.cuts import TooLarge, planned
 from codenav.sets.split.flattening import flattened
 from codenav.sets.split.tags import CutTags, cut_tags
 from codenav.sets.split.writing import Writer, Written
-from codenav.texts.places import Maps, maps_of, path_of
+from codenav.texts.places import maps_of
 
 if TYPE_CHECKING:
     from codenav.dumps.scip.messages import IndexFile
@@ -185,20 +184,10 @@ def too_large(documents: Sequence[tuple[str, str]]) -> str:
     return f"more than a part may have, each by itself: {named}{more}; {how}"
 
 
-def text_digest(uri: str, maps: Maps) -> str:
-    """A digest of the text of a document, empty where it's no file that can be read."""
-    path = path_of(uri, maps)
-    try:
-        with open(path or "", "rb") as file:
-            return hashlib.sha256(file.read()).hexdigest()[:DIGITS]
-    except (OSError, ValueError):
-        return ""
-
-
-def documents_of(cut: Cut, written: Sequence[Written], maps: Maps) -> list[DocumentEntry]:
+def documents_of(cut: Cut, written: Sequence[Written]) -> list[DocumentEntry]:
     """The documents with their parts."""
     return [
-        DocumentEntry(uri, part.project, text_digest(uri, maps))
+        DocumentEntry(uri, part.project)
         for number, part in enumerate(written)
         for uri in cut.flat.uris[cut.cuts[number] : cut.cuts[number + 1]]
     ]
@@ -251,7 +240,7 @@ def split_given(given: Given, options: SplitOptions, folder: str, shows: Shows) 
 
 def put_head(cut: Cut, written: Sequence[Written], options: SplitOptions, folder: str) -> Head:
     """Writes the manifest; answers what it says."""
-    documents = documents_of(cut, written, maps_of([*options.maps]))
+    documents = documents_of(cut, written)
     parts = tuple(
         PartEntry(part.project, part.elements, cut.flat.uris[first], part.digest)
         for part, first in zip(written, cut.cuts)

@@ -116,7 +116,8 @@ class Working:
 def work(writer: Writer, parts: Sequence[int], tells: Connection) -> None:
     """Writes parts in a process of its own, which ends with the one that started it."""
     signal.signal(signal.SIGTERM, signal.SIG_DFL)
-    signal.signal(signal.SIGINT, signal.SIG_IGN)
+    for number in signal.SIGINT, signal.SIGHUP:
+        signal.signal(number, signal.SIG_IGN)
     end_with_parent()
     try:
         found: Union[list[Written], Fault, OSError] = [writer.write(part) for part in parts]

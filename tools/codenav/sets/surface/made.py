@@ -1,7 +1,7 @@
 """Makes the surface of a set in a folder of its own, in parts where it's over the server's limits."""
 
 import os
-from typing import NamedTuple
+from typing import Collection, NamedTuple
 
 from codenav.faults import BadCall
 from codenav.limits import MOST_ELEMENTS, excesses
@@ -29,10 +29,12 @@ def surface_name(name: str) -> str:
 
 
 class SurfaceFiles(NamedTuple):
-    """A surface that was made: its parts, and the packages that the dump is joined by."""
+    """A surface that was made: its parts, the packages that the dump is joined by, and those of them
+    of which it has nothing that's imported."""
 
     parts: tuple[PartEntry, ...]
     packages: tuple[str, ...]
+    apart: tuple[str, ...] = ()
 
     def elements(self) -> int:
         """How many elements its parts have."""
@@ -40,7 +42,13 @@ class SurfaceFiles(NamedTuple):
 
 
 def made_surface(
-    dump: str, name: str, profile: str, folder: str, shows: Shows, most: int = MOST_ELEMENTS
+    dump: str,
+    name: str,
+    profile: str,
+    folder: str,
+    shows: Shows,
+    most: int = MOST_ELEMENTS,
+    apart: Collection[str] = (),
 ) -> SurfaceFiles:
     """Writes the surface of a prepared dump into a folder, in parts of so many elements at most
     where it's over the limits, and removes what's left there of another one. Raises BadCall and
@@ -48,7 +56,7 @@ def made_surface(
     os.makedirs(folder, exist_ok=True)
     whole = os.path.join(folder, "whole.lsif")
     with uncollected():
-        _, surface = write_surface(dump, profile, whole, shows)
+        _, surface = write_surface(dump, profile, whole, shows, apart)
     count = surface.lines.count
     parts: tuple[PartEntry, ...] = ()
     if surface.bearers and (count > most or excesses(count, surface.bytes, surface.longest)):
@@ -65,7 +73,7 @@ def made_surface(
         path = os.path.join(folder, own)
         if own.endswith(".lsif") and path not in named:
             os.unlink(path)
-    return SurfaceFiles(parts, surface.joined_packages())
+    return SurfaceFiles(parts, surface.joined_packages(), surface.apart_packages())
 
 
 def surface_file(folder: str, project: str) -> str:
@@ -76,5 +84,6 @@ def surface_file(folder: str, project: str) -> str:
 def keep_surface(folder: str, surface: SurfaceFiles) -> None:
     """Writes into the manifest of a set's folder what its surface is."""
     path = os.path.join(folder, MANIFEST)
-    head = read_head(path)._replace(surface=surface.parts, packages=surface.packages)
+    parts, packages, apart = surface
+    head = read_head(path)._replace(surface=parts, packages=packages, apart=apart)
     put_file(path, with_head(path, head))

@@ -9,7 +9,7 @@ limits is split as a dump is.
 
 from array import array
 from itertools import groupby
-from typing import BinaryIO
+from typing import BinaryIO, Collection
 
 from codenav.dumps.closure import reached
 from codenav.dumps.tables.graph import HOVER, NONE, REFERENCES, RESULTS, Graph
@@ -18,23 +18,50 @@ from codenav.faults import NotADump
 from codenav.files import whole_file
 from codenav.progress import Shows
 from codenav.sets.split.lines import ROLE_NAMES, Lines, as_text
-from codenav.sets.surface.found import Bearer, bearers
+from codenav.sets.surface.found import EXPORT, Bearer, bearers, kinds_of_monikers
 
 
 class Surface:
-    """The surface of a dump, which is written element by element."""
+    """The surface of a dump, which is written element by element. It has nothing of what is imported
+    of packages of the names `apart` alone."""
 
-    def __init__(self, graph: Graph, dump: BinaryIO, out: BinaryIO) -> None:
+    def __init__(
+        self, graph: Graph, dump: BinaryIO, out: BinaryIO, apart: Collection[str] = ()
+    ) -> None:
         self.graph, self.dump, self.out = graph, dump, out
         self.lines = Lines(graph, dump)
         self.bytes, self.longest = 0, 0
-        self.bearers = list(bearers(graph))
+        self.apart, self.kinds = set(apart), kinds_of_monikers(graph)
+        self.bearers = [own for own in bearers(graph) if not self.is_apart(own)]
         shown = {result for bearer in self.bearers for _, result in bearer.results}
         self.results = set(reached(graph.leads, shown)[0])
         self.items = sorted({item for item in graph.items if item >> 33 in self.results})
         self.ranges = array("i", [0]) * len(graph.start)
         self.own_results: dict[int, int] = {}
         self.monikers: dict[int, int] = {}
+
+    def packages_of(self, bearer: Bearer) -> set[int]:
+        """The packages of the keys that a vertex is found by, or NONE."""
+        found = reached(self.graph.attached, bearer.monikers)[0]
+        return {self.graph.package_of[moniker] for moniker in found}
+
+    def is_apart(self, bearer: Bearer) -> bool:
+        """Whether a vertex exports nothing, and imports of packages alone that are apart."""
+        if any(self.kinds[moniker] == EXPORT for moniker in bearer.monikers):
+            return False
+        return all(
+            own != NONE and self.graph.packages[own][1] in self.apart
+            for own in self.packages_of(bearer)
+        )
+
+    def apart_packages(self) -> tuple[str, ...]:
+        """Those of the packages below of which the surface has nothing, for they are apart."""
+        packages = self.graph.packages
+        there = {
+            packages[own] for found in map(self.packages_of, self.bearers) for own in found - {NONE}
+        }
+        apart = {" ".join(own) for own in packages if own[1] in self.apart and own not in there}
+        return tuple(own for own in self.joined_packages() if own in apart)
 
     def joined_packages(self) -> tuple[str, ...]:
         """The packages that the dump imports or exports something of, an empty text where a key has
@@ -137,14 +164,16 @@ class Surface:
         self.lines.result_set(results, [self.monikers[own] for own in bearer.monikers])
 
 
-def write_surface(path: str, profile: str, target: str, shows: Shows) -> tuple[int, Surface]:
+def write_surface(
+    path: str, profile: str, target: str, shows: Shows, apart: Collection[str] = ()
+) -> tuple[int, Surface]:
     """Writes the surface of the prepared dump in a file into another; answers how many elements the
     dump has, and the surface. Raises NotADump."""
     with open(path, "rb") as source:
         graph = read_graph(source, path, profile, shows)
         shows.begin("surface")
         with whole_file(target) as out:
-            surface = Surface(graph, source, out)
+            surface = Surface(graph, source, out, apart)
             surface.write()
         shows.end(f"elements {surface.lines.count}")
     return graph.elements, surface
