@@ -32,6 +32,23 @@
 (go-to "fahrenheit(")
 (show-found "definition" (xref-backend-definitions 'eglot "fahrenheit"))
 (show-found "references" (xref-backend-references 'eglot "fahrenheit"))
+(open-file "crate/src/lib.rs") ; whose project has tags
+(show-found "names" (xref-backend-apropos 'eglot "AHREN"))
+(open-file "user/src/lib.rs")
+(defun show-line (what text)
+  (write-region (format "%s %s\n" what text) nil (getenv "CODENAV_OUT") t 'quiet))
+(defun show-place (what position)
+  (save-excursion
+    (goto-char position)
+    (show-line what (format "%s:%d:%d" buffer-file-name (line-number-at-pos) (1+ (current-column))))))
+(defun show-outline (entries)
+  (dolist (entry entries)
+    (if (consp (cdr entry)) (show-outline (cdr entry)) (show-place "outline" (cdr entry)))))
+(show-outline (eglot-imenu))
+(dolist (one (append (jsonrpc-request (eglot--current-server-or-lose) :textDocument/documentHighlight
+                                      (eglot--TextDocumentPositionParams)) nil))
+  (show-place "highlight" (car (eglot--range-region (plist-get one :range)))))
+(show-line "renamed" (condition-case nil (progn (eglot-rename "other") "it") (error "nothing")))
 (goto-char (point-min))
 (insert "// unsaved\n\n")
 (eglot--signal-textDocument/didChange) ; an idle timer does it where Emacs isn't in a batch

@@ -9,6 +9,7 @@ import os
 import re
 import subprocess
 import sys
+import tempfile
 import time
 from typing import Any
 
@@ -143,6 +144,7 @@ def fail(kind: str, own: Any, taken: list[bytes]) -> Any:
 def serve() -> None:
     """Serves up to the end of the input."""
     faults, taken = Faults(), list[bytes]()
+    tempfile.mkstemp()  # as servers leave files there
     if "CHILD" in os.environ:
         child = subprocess.Popen(["sleep", "600"])
         with open(os.environ["CHILD"], "a", encoding="ascii") as file:

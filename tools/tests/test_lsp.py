@@ -1,31 +1,32 @@
 """Tests of the language server bridge, over pipes, against a small server on this machine that
 gives stored replies."""
 
-import io
 import json
 import os
 import subprocess
 import tempfile
 import threading
-import time
 import unittest
+from contextlib import suppress
 from http.server import BaseHTTPRequestHandler, ThreadingHTTPServer
-from typing import Any, ClassVar, Optional
+from typing import Any, ClassVar
 from unittest import mock
 from urllib.parse import parse_qsl, urlsplit
 
 from codenav.asking.tags import AWAY, GUESSED, SAID
 from codenav.lsp import bridge as lsp
-from codenav.lsp.jsonrpc import Inbox, logger, read_body, write_message
+from codenav.lsp.answers import QUERIES
 from codenav.lsp.open_documents import OpenDocuments, document_name
 from codenav.records import ADDRESS
 from codenav.texts.places import uri_of
 from tests.editor_addresses import NAME, SAME, SPELLINGS
+from tests.in_process import InProcess
+from tests.lsp_shapes import ERROR, RESULTS, TOLD, fault_in
 from tests.servers import command
 
 TOP = os.path.dirname(os.path.dirname(os.path.dirname(os.path.abspath(__file__))))
 LSP = command("lsp")
-TEXT = "fn main() {}\n"
+TEXT = "fn main() {}\n  main();\n"
 PLACE: dict[str, Any] = {"start": {"line": 1, "character": 2}, "end": {"line": 1, "character": 5}}
 NOT_MAPPED = [
     (
@@ -44,13 +45,17 @@ TAG = {
 }
 
 
+def codes(answer: dict[str, Any]) -> tuple[Any, Any]:
+    """The id of an answer, and the code of its error, or None."""
+    return answer["id"], answer.get("error", {}).get("code")
+
+
 class Replies(BaseHTTPRequestHandler):
     """Answers each GET by the stored status and body, and keeps the paths and parameters that were
     asked, but for those of the record of the revision, of which it has none."""
 
     status, body = 200, b"{}"
     asked: list[tuple[str, dict[str, str]]] = []
-    gate: Optional[threading.Event] = None
 
     def do_GET(self) -> None:
         """Answers one request."""
@@ -65,12 +70,11 @@ class Replies(BaseHTTPRequestHandler):
             tags = json.loads(body).get("tags", []) if body.startswith(b"{") else []
             own = [tag for tag in tags if tag["project"] == asked.get("project", tag["project"])]
             status, body = 200, json.dumps({"tags": own}).encode()
-        if self.gate is not None:
-            self.gate.wait(20)
-        self.send_response(status)
-        self.send_header("Content-Length", str(len(body)))
-        self.end_headers()
-        self.wfile.write(body)
+        with suppress(OSError):  # of who waits no more
+            self.send_response(status)
+            self.send_header("Content-Length", str(len(body)))
+            self.end_headers()
+            self.wfile.write(body)
 
     def log_message(self, *_: Any) -> None:
         """Prints nothing."""
@@ -123,11 +127,16 @@ class Editor:
         types and texts."""
         own, told = self.ask(method, params), []
         while "id" not in (message := self.read()):
+            assert not fault_in(message["params"], TOLD), message
             told.append(
                 (message["method"], message["params"]["type"], message["params"]["message"])
             )
         assert message.pop("id") == own
-        return message["error"]["code"] if "error" in message else message["result"], told
+        if "error" in message:
+            assert not (fault := fault_in(message["error"], ERROR)), (method, fault)
+            return message["error"]["code"], told
+        assert not (fault := fault_in(message["result"], RESULTS[method])), (method, fault)
+        return message["result"], told
 
     def end(self, *methods: str) -> tuple[int, bytes]:
         """The status and what was printed as an error, after requests and `exit` or, with none, the
@@ -165,7 +174,7 @@ class Lsp(unittest.TestCase):
         self.uri = uri_of(self.path, [])
         place = {"line": 0, "character": 3}
         self.at: dict[str, Any] = {"textDocument": {"uri": self.uri}, "position": place}
-        Replies.gate, Replies.asked = None, []
+        Replies.asked = []
 
     def editor(self, *words: str, url: str = "") -> Editor:
         """An editor that has initialized the bridge, in the folder, for the project `app`, and to
@@ -183,6 +192,14 @@ class Lsp(unittest.TestCase):
             self.assertEqual(editor.call("textDocument/hover", self.at), (None, NOT_MAPPED))
             (Replies.status, Replies.body), Replies.asked = stored, []
         return editor
+
+    def write(self, name: str, text: str) -> str:
+        """Writes a file of the folder, and answers its path."""
+        path = os.path.join(self.folder, name)
+        os.makedirs(os.path.dirname(path), exist_ok=True)
+        with open(path, "w", encoding="utf-8") as file:
+            file.write(text)
+        return path
 
     def answer(self, reply: Any, status: int = 200) -> None:
         """Stores what the server answers from now on."""
@@ -318,7 +335,8 @@ class Lsp(unittest.TestCase):
                 documents = OpenDocuments()
                 documents.put(uri, "text")
                 for other in uris:
-                    self.assertEqual(documents.find(document_name(other)), (uri, "text"), other)
+                    found = documents.find(document_name(other))
+                    self.assertEqual(found and (found.uri, found.text), (uri, "text"), other)
                     self.assertEqual(documents.uri_of(document_name(other)), uri)
                 documents.remove(uri)
                 self.assertIsNone(documents.find(document_name(uri)))
@@ -356,16 +374,17 @@ class Lsp(unittest.TestCase):
         asked = [
             ("/names", {"prefix": "ma", "project": project}) for project in ("app", "lib", "other")
         ]
-        self.assertEqual(Replies.asked, asked)
+        self.assertEqual([one for one in Replies.asked if one[1]["prefix"] == "ma"], asked)
+        Replies.asked = []
         self.assertEqual(editor.call("workspace/symbol", {"query": ""}), ([], []))
-        self.assertEqual(Replies.asked, asked)
+        self.assertEqual(Replies.asked, [])
         editor.end("shutdown", "exit")
 
     def test_many_symbols(self) -> None:
         self.answer({"tags": [{**TAG, "project": "app"}] * 300})
         editor = self.editor()
         symbols, told = editor.call("workspace/symbol", {"query": "ma"})
-        said = "codenav: of the names that begin with 'ma' 256 are shown"
+        said = "codenav: of 300 names with 'ma' 256 are shown"
         self.assertEqual((len(symbols), told), (256, [("window/logMessage", 3, said)]))
         editor.end("shutdown", "exit")
 
@@ -533,7 +552,14 @@ class Lsp(unittest.TestCase):
                     "implementation",
                     "references",
                     "hover",
+                    "documentHighlight",
+                    "documentSymbol",
                     "workspaceSymbol",
+                    "callHierarchy",
+                    "typeDefinition",
+                    "moniker",
+                    "foldingRange",
+                    "documentLink",
                 )
             },
         )
@@ -604,54 +630,112 @@ class Lsp(unittest.TestCase):
             self.assertEqual(editor.call("textDocument/hover", self.at), (None, told))
         self.assertEqual(editor.end("shutdown", "exit"), (0, b""))
 
-    def test_requests_that_are_cancelled(self) -> None:
-        self.answer({"contents": None})
-        log = os.path.join(self.folder, "log")
-        editor = self.editor("--log", log)
-        Replies.gate = threading.Event()
-        asked = [editor.ask("textDocument/hover", self.at) for _ in range(3)]
-        editor.notify("$/cancelRequest", {"id": asked[1]})
-        with open(log, "rb") as file:
-            while b"cancelRequest" not in file.readline():
-                time.sleep(0.01)
-        Replies.gate.set()
-        answers = [editor.read() for _ in range(3)]
-        self.assertEqual([answer["id"] for answer in answers], asked)
+    def hanging(self, *servers: str) -> tuple[InProcess, threading.Event, list[str]]:
+        """An editor over servers of which these hang until the event, and the paths that they're
+        asked for; what they answer is a place of each file `a.rs`."""
+        hangs, asked = threading.Event(), list[str]()
+        self.addCleanup(hangs.set)
+
+        def fetch_from(server: str, _: float) -> Any:
+            def fetch(path: str, _: object, member: str) -> Any:
+                if server in servers:
+                    asked.append(path)
+                    self.assertTrue(hangs.wait(600))
+                uri = uri_of(os.path.join(self.folder, "a", "a.rs"), [])
+                places = [{**PLACE, "project": "app", "uri": uri}]
+                found: dict[str, Any] = {"places": places, "tags": [], "contents": None}
+                return found[member]
+
+            return fetch
+
+        for name, server in zip("ab", ("http://h:1", "http://h:2")):
+            self.write(f"{name}/.codenav.toml", f'server = "{server}"\nproject = "app"\n')
+            self.write(f"{name}/a.rs", TEXT)
+        self.enterContext(mock.patch("codenav.asking.workspace.fetch_from", fetch_from))
+        editor = self.enterContext(InProcess(None))
+        root = {"rootUri": uri_of(self.folder, []), "capabilities": {}}
+        editor.answer({"id": 0, "method": "initialize", "params": root})
+        return editor, hangs, asked
+
+    def at_file(self, name: str) -> dict[str, Any]:
+        """A place of a file."""
+        return {**self.at, "textDocument": {"uri": uri_of(os.path.join(self.folder, name), [])}}
+
+    def test_a_server_that_hangs(self) -> None:
+        """It stops no other question; what waits for it can be cancelled, of which nothing more is
+        asked or said, and `shutdown` ends it all at once: each has one answer."""
+        editor, hangs, asked = self.hanging("http://h:1")
+        hover = {"method": "textDocument/hover", "params": self.at_file("a/a.rs")}
+        for number in range(1, 51):
+            editor.take({"id": number, **hover})
+        document = {"textDocument": {"uri": "untitled:1"}}
+        outline = {"id": 51, "method": "textDocument/documentSymbol", "params": document}
+        self.assertEqual(editor.answer(outline), {"id": 51, "result": []})
+        cancelled: list[Any] = [1, 50, 1, 51, "no such"]
+        for own in cancelled:
+            editor.take({"method": "$/cancelRequest", "params": {"id": own}})
+        editor.answer({"id": 52, "method": "shutdown"})
+        editor.answer({"id": 53, **hover})
+        hangs.set()
+        editor.settle()
         self.assertEqual(
-            [answer.get("error", {}).get("code") for answer in answers], [None, -32800, None]
+            [codes(one) for one in editor.sent],
+            [
+                *((own, None) for own in (0, 51)),
+                *((own, -32800) for own in (1, 50, *range(2, 50))),
+                *((52, None), (53, -32600)),
+            ],
         )
-        self.assertEqual(len(Replies.asked), 2)
-        editor.end("shutdown", "exit")
+        self.assertLessEqual(len(asked), 50)
+
+    def test_two_servers_of_which_one_hangs(self) -> None:
+        """A question to the other is answered meanwhile, and both about what's open then."""
+        editor, hangs, _ = self.hanging("http://h:1")
+        method, uri = "textDocument/definition", self.at_file("a/a.rs")["textDocument"]["uri"]
+        editor.take({"id": 1, "method": method, "params": self.at_file("a/a.rs")})
+        found = editor.answer({"id": 2, "method": method, "params": self.at_file("b/a.rs")})
+        self.assertEqual(found, {"id": 2, "result": [{"uri": uri, "range": PLACE}]})
+        opened = {"textDocument": {"uri": uri, "text": "fn\n ma"}}
+        editor.take({"method": "textDocument/didOpen", "params": opened})
+        hangs.set()
+        end = {"line": 1, "character": 3}
+        span = {"start": {"line": 1, "character": 2}, "end": end}
+        self.assertEqual(editor.answers(3)[2], {"id": 1, "result": [{"uri": uri, "range": span}]})
+
+    def test_an_id_that_waits(self) -> None:
+        """A second request of it is refused, and the first one still has its answer."""
+        editor, hangs, _ = self.hanging("http://h:1")
+        params = self.at_file("a/a.rs")
+        editor.take({"id": 1, "method": "textDocument/hover", "params": params})
+        for method, code in ("textDocument/hover", -32600), ("no/method", -32601):
+            answer = editor.answer({"id": 1, "method": method, "params": params})
+            self.assertEqual(codes(answer), (1, code))
+        hangs.set()
+        self.assertEqual(editor.answers(4)[3], {"id": 1, "result": None})
 
     def test_an_unexpected_fault(self) -> None:
-        """It ends neither the bridge nor the answers that come after it."""
-        shutdown = {"id": 2, "method": "shutdown"}
+        """It ends neither the bridge nor the answers that come after it, and is shown once."""
         opened = {"textDocument": {"uri": self.uri, "text": TEXT}}
+        planted = mock.Mock(side_effect=KeyError("a\nb"))
         rows: list[tuple[dict[str, Any], str, dict[str, Any]]] = [
             ({"id": 1}, "textDocument/hover", self.at),
             ({}, "textDocument/didOpen", opened),
         ]
         for own, method, params in rows:
-            messages: list[dict[str, Any]] = [{**own, "method": method, "params": params}]
-            if own:
-                messages.insert(0, {"id": 0, "method": "initialize", "params": {}})
-            written = io.BytesIO()
-            for message in [*messages, shutdown, {"method": "exit"}]:
-                write_message(written, json.dumps({"jsonrpc": "2.0", **message}).encode())
-            out, planted = io.BytesIO(), mock.Mock(side_effect=KeyError("a\nb"))
-            written.seek(0)
-            with mock.patch.dict(lsp.QUERIES, {method: planted}), mock.patch.dict(
+            with mock.patch.dict(QUERIES, {method: planted}), mock.patch.dict(
                 lsp.NOTIFICATIONS, {method: planted} if not own else {}
-            ):
-                log = logger(None, print)
-                lsp.serve(lsp.Bridge(None, out, log), Inbox(written, log))
-            out.seek(0)
-            found = [json.loads(body) for body in iter(lambda: read_body(out), None)]
+            ), InProcess(None) as editor:
+                editor.answer({"id": 0, "method": "initialize", "params": {}})
+                message = {**own, "method": method, "params": params}
+                for _ in range(2):
+                    if own:
+                        self.assertEqual(codes(editor.answer(message)), (1, -32603))
+                    else:
+                        editor.take(message)
+                editor.answer({"id": 2, "method": "shutdown"})
+                said = [one["params"] for one in editor.sent if "method" in one]
             text = f"codenav: {method}: KeyError: 'a\\nb'"
-            said = [one["params"] for one in found if "method" in one]
             self.assertEqual(said, [{"type": 1, "message": text}])
-            answers = {one["id"]: one.get("error", {}).get("code") for one in found if "id" in one}
-            self.assertEqual(answers, {0: None, 1: -32603, 2: None} if own else {2: -32002})
 
     def test_a_log_that_is_full(self) -> None:
         editor = Editor("--log", "/dev/full", self.url, "app")

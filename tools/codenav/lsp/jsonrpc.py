@@ -14,6 +14,7 @@ METHOD_NOT_FOUND = -32601
 INVALID_PARAMS = -32602
 INTERNAL_ERROR = -32603
 NOT_INITIALIZED = -32002
+CONTENT_MODIFIED = -32801
 CANCELLED = -32800
 
 LENGTH = re.compile(rb"content-length:[ \t]*([0-9]{1,9})[ \t]*", re.IGNORECASE)
@@ -85,15 +86,13 @@ def is_exit(message: Message) -> bool:
 
 
 class Inbox:
-    """The messages that come, in order. They're read ahead, so that a request can be cancelled
-    while it waits for its turn."""
+    """The messages that come, in order. They're read ahead, so that an editor never waits to send
+    one."""
 
     def __init__(self, source: BinaryIO, log: Callable[[str, bytes], None]) -> None:
         self.source = source
         self.log = log
         self.messages: SimpleQueue[Union[Message, Fault, None]] = SimpleQueue()
-        self.waiting: dict[Union[int, str], bool] = {}
-        self.lock = threading.Lock()
         threading.Thread(target=self.fill, daemon=True).start()
 
     def fill(self) -> None:
@@ -115,34 +114,16 @@ class Inbox:
             except Fault as fault:
                 self.messages.put(fault)
                 continue
-            if message.get("method") == "$/cancelRequest" and "id" not in message:
-                self.cancel(message.get("params"))
-                continue
-            if "method" in message and "id" in message:
-                with self.lock:
-                    self.waiting[message["id"]] = False
             self.messages.put(message)
             if is_exit(message):
                 return None
 
-    def cancel(self, params: Any) -> None:
-        """Notes that a request is cancelled, where it still waits."""
-        own = params.get("id") if isinstance(params, dict) else None
-        with self.lock:
-            if type(own) in (int, str) and own in self.waiting:
-                self.waiting[own] = True
-
     def next(self) -> Optional[Message]:
         """The next message; None at the end of the input. Raises Fault for one that is answered by
-        an error, a cancelled request among them."""
+        an error."""
         message = self.messages.get()
         if isinstance(message, Fault):
             raise message
-        if message is not None and "method" in message and "id" in message:
-            with self.lock:
-                is_cancelled = self.waiting.pop(message["id"], False)
-            if is_cancelled:
-                raise Fault(CANCELLED, "cancelled", message["id"])
         return message
 
 

@@ -6,6 +6,7 @@ import os
 from typing import NamedTuple, Optional
 
 from codenav.addresses import spelled
+from codenav.texts.decoded import Text
 from codenav.texts.places import path_of, uri_of
 
 
@@ -13,7 +14,12 @@ class Open(NamedTuple):
     """An open document: its address as the editor has it, and its text."""
 
     uri: str
-    text: str
+    own: Text
+
+    @property
+    def text(self) -> str:
+        """The text."""
+        return self.own.text
 
 
 def document_name(uri: str) -> str:
@@ -31,7 +37,7 @@ class OpenDocuments:
     def put(self, uri: str, text: str) -> None:
         """Keeps the text of a document."""
         name = document_name(uri)
-        self.own[name] = Open(uri, text)
+        self.own[name] = Open(uri, Text(text))
         if os.path.isabs(name):
             self.real[os.path.realpath(name)] = name
 

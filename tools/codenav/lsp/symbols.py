@@ -1,52 +1,86 @@
-"""Tags as the Language Server Protocol 3.17 has symbols."""
+"""Symbols as the Language Server Protocol 3.17 has them: their kinds, and which of many are shown."""
 
-from typing import Any
+from typing import Any, Callable, NamedTuple, Optional
 
-from codenav.lsp.jsonrpc import Message
-from codenav.texts.places import Place
-
-SYMBOLS = {
-    "n": 3,
-    "namespace": 3,
-    "module": 2,
-    "p": 12,
-    "P": 6,
-    "method": 6,
-    "c": 5,
-    "class": 5,
-    "m": 8,
-    "member": 8,
-    "field": 8,
-    "f": 12,
-    "function": 12,
-    "func": 12,
-    "v": 13,
-    "variable": 13,
-    "C": 14,
-    "constant": 14,
-    "g": 10,
-    "enum": 10,
-    "e": 22,
-    "enumerator": 22,
-    "i": 11,
-    "interface": 11,
-    "s": 23,
-    "struct": 23,
-    "u": 23,
-    "union": 23,
-    "t": 26,
-    "typedef": 26,
-    "type": 26,
+FILE, MODULE, NAMESPACE, PACKAGE, CLASS, METHOD, PROPERTY, FIELD = 1, 2, 3, 4, 5, 6, 7, 8
+CONSTRUCTOR, ENUM, INTERFACE, FUNCTION, VARIABLE, CONSTANT, STRING = 9, 10, 11, 12, 13, 14, 15
+KEY, MEMBER, STRUCT, EVENT, TYPE_PARAMETER = 20, 22, 23, 24, 26
+CALLED = (METHOD, CONSTRUCTOR, FUNCTION)
+OF_NAMES = {
+    FILE: "file F",
+    MODULE: "module program library unit",
+    NAMESPACE: "namespace n section chapter subsection subsubsection title part",
+    PACKAGE: "package P",
+    CLASS: "class c implementation mixin record role object",
+    METHOD: "method task procedure",
+    PROPERTY: "property attribute slot",
+    FIELD: "member field m",
+    CONSTRUCTOR: "constructor",
+    ENUM: "enum g",
+    INTERFACE: "interface i trait protocol signature",
+    FUNCTION: "function func f p prototype macro define d subroutine singletonMethod",
+    VARIABLE: "variable var v local parameter externvar label",
+    CONSTANT: "constant const C",
+    STRING: "string heredoc",
+    KEY: "key id anchor target",
+    MEMBER: "enumerator e",
+    STRUCT: "struct union s u",
+    EVENT: "event signal",
+    TYPE_PARAMETER: "typedef type t alias typealias typespec subtype",
 }
-VARIABLE = 13
+KINDS = {name: kind for kind, names in OF_NAMES.items() for name in names.split()}
+IN_LANGUAGES = {("Python", "member"): METHOD, ("Make", "target"): FUNCTION}
+ORDER = (CLASS, STRUCT, INTERFACE, ENUM, FUNCTION, METHOD, CONSTRUCTOR, TYPE_PARAMETER, MODULE)
 
 
-def symbol(tag: dict[str, Any], place: Place, uri: str) -> Message:
-    """A tag as the protocol has it."""
-    start = place.position()
-    return {
-        "name": tag["name"],
-        "kind": SYMBOLS.get(tag["kind"], VARIABLE),
-        "containerName": tag["project"],
-        "location": {"uri": uri, "range": {"start": start, "end": start}},
-    }
+def kind_of(name: Optional[str], language: str = "") -> int:
+    """The kind that ctags calls so, by its letter or its name."""
+    return IN_LANGUAGES.get((language, name or ""), KINDS.get(name or "", VARIABLE))
+
+
+class Rank(NamedTuple):
+    """How well a name fits, the least first: how it has the text that is looked for, then whether
+    it's in the file at hand, in its project, and of a kind that others are in."""
+
+    fit: int
+    is_other_file: bool
+    project: int
+    kind: int
+    length: int
+    name: str
+
+
+def fit(name: str, text: str) -> Optional[int]:
+    """How a name has a text, in whatever letters: it is the text, begins with it, has it where one
+    of its words begins or elsewhere, or has its characters in their order; None where it hasn't."""
+    low, wanted = name.lower(), text.lower()
+    name = name if len(name) == len(low) else low
+    at = low.find(wanted)
+    if at == 0:
+        return int(len(low) > len(wanted))
+    while at > 0:
+        is_begin = not name[at - 1].isalnum() or name[at].isupper() and not name[at - 1].isupper()
+        if is_begin:
+            return 2
+        at = low.find(wanted, at + 1)
+    if wanted in low:
+        return 3
+    rest = iter(low)
+    return 4 if all(character in rest for character in wanted) else None
+
+
+def ranked(
+    tags: list[dict[str, Any]], text: str, project: int, is_here: Callable[[dict[str, Any]], bool]
+) -> list[tuple[Rank, dict[str, Any]]]:
+    """Tags whose names have a text, each with its rank; `project` is the place of theirs."""
+    found = []
+    fits: dict[str, Optional[int]] = {}
+    for tag in tags:
+        name = tag["name"]
+        if name not in fits:
+            fits[name] = fit(name, text)
+        own, kind = fits[name], kind_of(tag["kind"])
+        if own is not None:
+            order = ORDER.index(kind) if kind in ORDER else len(ORDER)
+            found.append((Rank(own, not is_here(tag), project, order, len(name), name), tag))
+    return found
