@@ -26,10 +26,10 @@ from codenav.client import fetch
 from codenav.client.http import Answer
 from codenav.faults import BadCall
 from codenav.settings.found import Settings
+from tests.packages import needs
 from tests.repository import InRepository, git_in
 from tests.servers import replying
 
-CROSS = {"Sec-Fetch-Site": "cross-site"}
 PLACE: dict[str, Any] = {
     "project": "app",
     "uri": "",
@@ -89,7 +89,7 @@ class Served:
         self, path: str, method: str = "GET", host: Optional[str] = None, **headers: str
     ) -> tuple[int, str, dict[str, str]]:
         """The status, the body and the headers of an answer."""
-        connection = http.client.HTTPConnection("127.0.0.1", self.port, timeout=10)
+        connection = http.client.HTTPConnection("127.0.0.1", self.port, timeout=120)
         connection.putrequest(method, path, skip_host=True)
         for name, value in {
             "Host": host or f"127.0.0.1:{self.port}",
@@ -189,7 +189,7 @@ class Browse(Served, unittest.TestCase):
         )
         body = self.got("/files/src/%3Cb%3E%20&%20'c'.rs")[1]
         self.assertIn("<title>src/&lt;b&gt; &amp; &#x27;c&#x27;.rs</title>", body)
-        self.assertIn('data-path="src/&lt;b&gt; &amp; &#x27;c&#x27;.rs"', body)
+        self.assertIn('data-path="src/%3Cb%3E%20%26%20%27c%27.rs"', body)
 
     def test_a_name_that_is_not_utf8(self) -> None:
         with open(os.path.join(os.fsencode(self.top), b"\xff.rs"), "wb") as file:
@@ -245,6 +245,38 @@ class Browse(Served, unittest.TestCase):
             self.refused(f"/files/{path}", 403, fault)
         with mock.patch.object(folder, "MOST_BYTES", 10):
             self.refused("/files/src/a.rs", 403, "a file of 47 bytes, and 10 are shown at most")
+
+    def test_files_that_are_not_found(self) -> None:
+        """What has no page isn't offered, in a checkout or elsewhere: each link leads to a text."""
+        for name, target in ("a.loop", "b.loop"), ("b.loop", "a.loop"), ("gone", "nowhere"):
+            os.symlink(target, os.path.join(self.top, name))
+        os.mkfifo(os.path.join(self.top, "pipe"))
+        texts = {
+            "binary": b"\xff\0" * 9_000,
+            "nul.txt": "\N{DEGREE SIGN}\0".encode() * 9_000,
+            "wide.txt": "\ufeffwide\n".encode("utf-16-le"),
+            "latin.txt": b"\xe9\n" * 9_000,
+            "cut.txt": b"x" * 7_999 + "\N{DEGREE SIGN}".encode() + b"\0",
+            "empty.txt": b"",
+            "large.txt": b"x" * 50_000,
+        }
+        for name, body in texts.items():
+            with open(os.path.join(self.top, name), "wb") as file:
+                file.write(body)
+        shown = {"again.rs", "src/a.rs", "src/<b> & 'c'.rs", "nul.txt", "wide.txt"}
+        shown |= {"latin.txt", "cut.txt", "empty.txt"}
+        for is_checkout in False, True:
+            if is_checkout:
+                git_in(self.top, "init", "-q")
+                git_in(self.top, "add", "-A")
+            browser = Browser(Folder(self.top), Settings("http://127.0.0.1:1", "app", self.top))
+            with mock.patch.object(folder, "MOST_BYTES", 40_000):
+                found = browser.files({"text": ""})
+                links = {row["name"]: row["href"] for row in found["names"]}
+                self.assertEqual((set(links), found["said"]), (shown, f"{len(shown)} files"))
+                self.assertEqual({self.got(link)[0] for link in links.values()}, {200})
+                listed = {entry.name for entry in browser.folder.entries("")}
+            self.assertFalse(listed & {"a.loop", "b.loop", "gone", "pipe", "out", "up"})
 
     def test_revisions_that_are_not_there(self) -> None:
         git_in(self.top, "init", "-q")
@@ -377,6 +409,7 @@ class Browse(Served, unittest.TestCase):
         )
 
     def test_hovers(self) -> None:
+        needs("markdown_it", "python3-markdown-it")
         for contents, nodes in (
             (None, []),
             ("<b>x</b>", [["p", {}, ["<b>x</b>"]]]),
@@ -528,6 +561,26 @@ class Browse(Served, unittest.TestCase):
             (502, {"fault": "the index: D01 project has no dump"}),
         )
 
+    def test_words_of_a_file_that_is_not_in_the_index(self) -> None:
+        """The link at one says so, and leads to the names that have it."""
+        self.write("word.txt", "x \U0001f600 pour & x\n")
+        for at, link in (
+            ("1.6", "/search?text=pour"),
+            ("1.9", "/search?text=pour"),
+            ("1.1", "/search?text=x"),
+            ("1.11", ""),
+            ("9.1", ""),
+            ("1.99", ""),
+        ):
+            with self.subTest(at):
+                fault = {"fault": "D02", "text": "no such document"}
+                with self.replies(fault, 404):
+                    status, body, _ = self.got(f"/files/word.txt?at={at}")
+                self.assertEqual(status, 404)
+                self.assertIn("<h1>404: the index doesn&#x27;t have this file</h1>", body)
+                self.assertEqual(re.findall('href="(/search[^"]*)"', body), [link] if link else [])
+                self.assertNotIn(self.home.name, body)
+
     def test_questions_that_are_none(self) -> None:
         for path in (
             "/ask",
@@ -538,6 +591,7 @@ class Browse(Served, unittest.TestCase):
             "/names",
             "/names?prefix=",
             "/names?prefix=%00",
+            "/names?prefix=%FF",
         ):
             self.assertEqual(self.asked(path, {})[::2], (400, None), path)
 
@@ -589,17 +643,17 @@ class Trees(Served, unittest.TestCase):
         shown = [number for number in range(1000) if f'href="/files/many/f{number:03}.txt"' in body]
         self.assertEqual(shown, list(range(400, 600)))
         self.assertIn(
-            'data-at="many/" data-start="0" data-end="400" data-before="true">400 more<', body
+            'data-path="many/" data-start="0" data-end="400" data-before="true">400 more<', body
         )
         self.assertIn(
-            'data-at="many/" data-start="600" data-end="1000" data-before="false">400 more<', body
+            'data-path="many/" data-start="600" data-end="1000" data-before="false">400 more<', body
         )
-        listed = json.loads(self.got("/list?at=many/&start=600&end=602")[1])
+        listed = json.loads(self.got("/list?path=many/&start=600&end=602")[1])
         self.assertEqual(
             listed["entries"],
             [{"name": f"f{one}.txt", "href": f"/files/many/f{one}.txt"} for one in (600, 601)],
         )
-        for query in "at=..&start=0&end=1", "at=many/&start=x&end=1", "at=many/&start=0":
+        for query in "path=..&start=0&end=1", "path=many/&start=x&end=1", "path=many/&start=0":
             self.assertIn(self.got(f"/list?{query}")[0], (400, 403))
 
     def test_finding_files(self) -> None:

@@ -21,7 +21,7 @@ OPTIONS = [
     "--window-size=1200,760",
     "--force-prefers-reduced-motion",
 ]
-WAIT = 20
+WAIT = 60
 KEYS = {
     "Enter": "\ue007",
     "Escape": "\ue00c",
@@ -29,6 +29,7 @@ KEYS = {
     "ArrowDown": "\ue015",
     "ArrowUp": "\ue013",
     "Tab": "\ue004",
+    "Control": "\ue009",
 }
 OPENER = build_opener(ProxyHandler({}))
 
@@ -74,8 +75,10 @@ class Page:
             "POST", "/actions", actions=[{"type": "key", "id": "keyboard", "actions": strokes}]
         )
 
-    def point(self, box: dict[str, float], click: bool) -> None:
-        """Moves the mouse to the middle of a box, and clicks there."""
+    def point(
+        self, box: dict[str, float], click: bool, kind: str = "mouse", button: int = 0
+    ) -> None:
+        """Moves the mouse, or with `touch` a finger, to the middle of a box, and clicks there."""
         to = {
             "type": "pointerMove",
             "duration": 0,
@@ -83,21 +86,19 @@ class Page:
             "x": round(box["x"] + box["width"] / 2),
             "y": round(box["y"] + box["height"] / 2),
         }
-        clicks = (
-            [{"type": kind, "button": 0} for kind in ("pointerDown", "pointerUp")] if click else []
-        )
-        self.call(
-            "POST",
-            "/actions",
-            actions=[
-                {
-                    "type": "pointer",
-                    "id": "mouse",
-                    "parameters": {"pointerType": "mouse"},
-                    "actions": [to, *clicks],
-                }
-            ],
-        )
+        presses = [{"type": name, "button": button} for name in ("pointerDown", "pointerUp")]
+        pointer = {
+            "type": "pointer",
+            "id": kind,
+            "parameters": {"pointerType": kind},
+            "actions": [to, *(presses if click else [])],
+        }
+        self.call("POST", "/actions", actions=[pointer])
+
+    def hold(self, key: str, is_down: bool) -> None:
+        """Presses a key and holds it, or lets go of it."""
+        action = {"type": "keyDown" if is_down else "keyUp", "value": KEYS[key]}
+        self.call("POST", "/actions", actions=[{"type": "key", "id": "held", "actions": [action]}])
 
     def until(self, script: str, wanted: Callable[[Any], bool], what: str) -> Any:
         """What an expression is once it's as wanted."""
@@ -108,6 +109,14 @@ class Page:
                 return value
             time.sleep(0.02)
         raise Failed(f"{what}: {value!r}")
+
+    def wait(self, is_so: Callable[[], bool], what: str) -> None:
+        """Waits until something is so."""
+        end = time.monotonic() + WAIT
+        while not is_so():
+            if time.monotonic() > end:
+                raise Failed(what)
+            time.sleep(0.02)
 
     def cdp(self, command: str, **members: Any) -> Any:
         """A command of the Chrome DevTools Protocol."""

@@ -5,8 +5,10 @@ A line is a list of numbers, three for each part that has a colour: how many cha
 it, how long it is, both in UTF-16 code units, and the number of its kind in KINDS.
 """
 
+import os
 import time
 from functools import cache
+from itertools import islice
 from typing import Any, Iterator, Optional
 
 from codenav.texts.places import units
@@ -18,8 +20,10 @@ try:
 except ImportError:
     lexers = None  # type: ignore[assignment]
 
+DATA = {"Text only", "Markdown", "JSON", "TOML", "YAML", "XML", "INI", "Diff", "reStructuredText"}
 KINDS = ["comment", "keyword", "string", "number", "function", "type", "meta"]
-MOST_CHARACTERS, SECONDS = 3_000_000, 15.0
+MOST_CHARACTERS, MOST_LINE, MOST_PARTS = 3_000_000, 5_000, 400_000
+SECONDS = 15.0
 MISSING = "no colours: python3-pygments isn't installed"
 
 
@@ -64,11 +68,13 @@ def lexer_of(name: str, language: str = "") -> Optional[Any]:
 
 
 def coloured(lexer: Any, text: str) -> Iterator[list[int]]:
-    """The colours of one line after the other; none of what comes later than some seconds."""
+    """The colours of one line after the other; none of a long line, nor of what comes behind many
+    parts or some seconds."""
+    kept = "\n".join(line if len(line) <= MOST_LINE else "" for line in text.split("\n"))
     line: list[int] = []
     before = 0
     end = time.monotonic() + SECONDS
-    for token, part in lexer.get_tokens(text):
+    for token, part in islice(lexer.get_tokens(kept), MOST_PARTS):
         kind = kind_of(token)
         pieces = part.split("\n")
         for number, piece in enumerate(pieces):
@@ -84,3 +90,17 @@ def coloured(lexer: Any, text: str) -> Iterator[list[int]]:
         if time.monotonic() > end:
             break
     yield line
+
+
+@cache
+def language_by(ending: str) -> str:
+    """The language of files whose names end so; nothing of data and of plain texts."""
+    lexer = lexer_of(f"x{ending}")
+    name = str(lexer.name) if lexer is not None else ""
+    return "" if name in DATA else name
+
+
+def language_of(name: str) -> str:
+    """The language of a file by the end of its name; nothing where it's none."""
+    ending = os.path.splitext(name)[1].lower()
+    return language_by(ending) if ending and len(ending) < 12 else ""

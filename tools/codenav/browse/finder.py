@@ -1,10 +1,11 @@
 """Finds files by some of the letters of their names, as finders of editors do."""
 
 from heapq import nlargest
-from typing import Iterable, Optional
+from itertools import islice
+from typing import Callable, Iterable, Optional
 
 SEPARATORS = "/_-. "
-MOST = 50
+MOST, MOST_SEEN = 50, 500
 
 
 def score(name: str, wanted: str) -> Optional[int]:
@@ -29,9 +30,12 @@ def score(name: str, wanted: str) -> Optional[int]:
     return points * 100 - min(len(name), 99)
 
 
-def found(names: Iterable[str], text: str) -> list[str]:
-    """The names that have the letters of a text, the best first; blanks of the text don't count."""
+def found(
+    names: Iterable[str], text: str, is_shown: Callable[[str], bool] = lambda name: True
+) -> list[str]:
+    """The names that have the letters of a text, the best first, of files that are shown; blanks of
+    the text don't count."""
     wanted = "".join(text.lower().split())
     scored = ((score(name, wanted), name) for name in names)
-    best = nlargest(MOST, ((points, name) for points, name in scored if points is not None))
-    return [name for _, name in best]
+    best = nlargest(MOST_SEEN, ((points, name) for points, name in scored if points is not None))
+    return list(islice((name for _, name in best if is_shown(name)), MOST))

@@ -7,83 +7,23 @@ know come behind the text in the same page, as data.
 
 import json
 import os
-import re
 from contextlib import suppress
 from html import escape
-from string import Template
 from typing import Any, Iterator
 from urllib.parse import quote
 
 from codenav.browse.colours import KINDS, MOST_CHARACTERS, coloured, lexer_of
 from codenav.browse.drawn import drawn, html
-from codenav.browse.folder import Entry, Folder, Refused, href
+from codenav.browse.folder import Refused, href
+from codenav.browse.frame import END, MOST_ENTRIES, Shown, framed, link, template
 from codenav.browse.markdown import Node, markdown
-from codenav.browse.view import View, unknown_words
+from codenav.browse.view import WORD, View, unknown_words
 from codenav.texts.decoded import lines_in
 from codenav.texts.places import units
 
-PAGE = os.path.join(os.path.dirname(os.path.abspath(__file__)), "page")
 BLOCK, MOST_LINKED = 100, 3000
-MOST_ENTRIES = 200
 READMES = ("readme.md", "readme", "readme.txt", "readme.rst")
-WORD = re.compile(r"\w+")
 LABEL = "Text of the file; arrow keys go from word to word"
-
-
-def template(name: str) -> Template:
-    """A page with places to fill."""
-    with open(os.path.join(PAGE, name), encoding="utf-8") as file:
-        return Template(file.read())
-
-
-def link(at: str, entry: Entry, shown: str, revision: str) -> str:
-    """A file or a folder in the tree; the folders on the way to what is shown stand open."""
-    own = f"{at}{entry.name}"
-    current = ' aria-current="page"' if own == shown else ""
-    label = f"{entry.name}/" if entry.is_folder else entry.name
-    return f'<a href="{escape(href(own, revision=revision))}"{current}>{html(label)}</a>'
-
-
-def more(at: str, start: int, end: int, count: int) -> str:
-    """A button for entries of a folder that aren't in the page yet, the ones that are nearest
-    first."""
-    words = f"{end - start:,} more"
-    return (
-        f'<li><button type="button" class="more" data-at="{escape(at)}" data-start="{start}" data-end="{end}" '
-        f'data-before="{str(end < count).lower()}">{words}</button></li>'
-    )
-
-
-def tree(folder: Folder, shown: str, revision: str, at: str = "") -> str:
-    """The files and folders of a folder: of many those around the one that is shown, or the
-    first."""
-    entries = folder.entries(at)
-    inner = next((one for one in entries if f"{shown}/".startswith(f"{at}{one.name}/")), None)
-    middle = entries.index(inner) if inner else 0
-    start = max(0, min(middle - MOST_ENTRIES // 2, len(entries) - MOST_ENTRIES))
-    end = min(start + MOST_ENTRIES, len(entries))
-    rows = []
-    for entry in entries[start:end]:
-        below = (
-            tree(folder, shown, revision, f"{at}{entry.name}/")
-            if entry is inner and entry.is_folder
-            else ""
-        )
-        rows.append(f"<li>{link(at, entry, shown, revision)}{below}</li>")
-    before = more(at, 0, start, len(entries)) if start else ""
-    after = more(at, end, len(entries), len(entries)) if end < len(entries) else ""
-    return f"<ul>{before}{''.join(rows)}{after}</ul>"
-
-
-def listed(folder: Folder, at: str, start: int, end: int, revision: str) -> list[dict[str, str]]:
-    """Some entries of a folder, for the tree."""
-    return [
-        {
-            "name": f"{entry.name}/" if entry.is_folder else entry.name,
-            "href": href(f"{at}{entry.name}", revision=revision),
-        }
-        for entry in folder.entries(at)[start:end]
-    ]
 
 
 def text_in(line: str) -> str:
@@ -94,11 +34,13 @@ def text_in(line: str) -> str:
 
 def linked(line: str, number: int, query: str) -> str:
     """A line as HTML, with a link at each word that leads on to its definition."""
-    parts, at = [], 0
+    parts, at, column = [], 0, 1
     for word in WORD.finditer(line):
-        column = word.start() + 1 if line.isascii() else units(line[: word.start()]) + 1
-        parts.append(text_in(line[at : word.start()]))
-        parts.append(f'<a href="{query}at={number}.{column}">{text_in(word[0])}</a>')
+        before, own = line[at : word.start()], word[0]
+        column += len(before) if before.isascii() else units(before)
+        parts.append(text_in(before))
+        parts.append(f'<a href="{query}at={number}.{column}">{text_in(own)}</a>')
+        column += len(own) if own.isascii() else units(own)
         at = word.end()
     return "".join(parts) + text_in(line[at:])
 
@@ -106,7 +48,7 @@ def linked(line: str, number: int, query: str) -> str:
 def code(lines: list[str], name: str, revision: str) -> str:
     """The lines of a file, in blocks; those of a long one without links, which the script makes."""
     shown = lines[:-1] if len(lines) > 1 and not lines[-1] else lines
-    query = f"?revision={quote(revision, safe='')}&amp;" if revision else "?"
+    query = f"?revision={quote(os.fsencode(revision), safe='')}&amp;" if revision else "?"
     is_long = len(shown) > MOST_LINKED or sum(map(len, shown)) > MOST_LINKED * BLOCK
     blocks = []
     for at in range(0, len(shown), BLOCK):
@@ -117,31 +59,12 @@ def code(lines: list[str], name: str, revision: str) -> str:
         text = "\n".join(texts)
         blocks.append(f'<div class="{kind}" data-first="{at + 1}">{text}\n</div>')
     return (
-        f'<div id="code" role="group" aria-label="{LABEL}" tabindex="0" data-path="{escape(name)}" '
+        f'<div id="code" role="group" aria-label="{LABEL}" tabindex="0" data-path="{quote(os.fsencode(name))}" '
         f'data-revision="{escape(revision)}" data-lines="{len(shown)}">{"".join(blocks)}</div>'
     )
 
 
-def crumbs(name: str, project: str, revision: str) -> str:
-    """The path of a file or a folder, each part of which leads to its page, and the revision."""
-    home = escape(href("", revision=revision))
-    own = ""
-    if revision:
-        today = escape(href(name))
-        label = html(revision[:12] if len(revision) == 40 else revision)
-        own = f'<span class="revision">as of {label} · <a class="today" href="{today}">today</a></span>'
-    if not name:
-        return f"<h1>{escape(project)}</h1>{own}"
-    *folders, last = name.split("/")
-    parts = [f'<a class="home" href="{home}">{escape(project)}</a>']
-    for index, folder in enumerate(folders):
-        address = escape(href("/".join(folders[: index + 1]), revision=revision))
-        parts.append(f'<a class="up" href="{address}">{html(folder)}</a>')
-    slash = '<span class="slash">/</span>'
-    return f'{slash.join(parts)}{slash}<h1>{html(last)}</h1>{own}<span class="symbol"></span>'
-
-
-def folder_content(view: View, name: str) -> str:
+def folder_content(view: View, name: str, has_rows: bool) -> str:
     """The content of the page of a folder: what stands in it, and its README."""
     at = f"{name}/" if name else ""
     entries = view.folder.entries(at)
@@ -151,7 +74,7 @@ def folder_content(view: View, name: str) -> str:
     more_ = (
         f"<p>and {len(entries) - MOST_ENTRIES:,} more</p>" if len(entries) > MOST_ENTRIES else ""
     )
-    hint = '<p id="empty">Choose a file, or press <kbd>f</kbd> to find one by its name.</p>'
+    hint = "<p>Choose a file, or press <kbd>f</kbd> to find one by its name.</p>"
     readme = ""
     own = next((one.name for one in entries if one.name.lower() in READMES), None)
     if own is not None:
@@ -162,7 +85,8 @@ def folder_content(view: View, name: str) -> str:
             )
             address = escape(href(at + own, revision=view.revision))
             readme = f'<h2><a href="{address}">{html(own)}</a></h2><div class="readme">{body}</div>'
-    return f'<div class="folder">{hint}<ul class="rows">{rows}</ul>{more_}{readme}</div>'
+    listed = f'{hint}<ul class="rows">{rows}</ul>{more_}' if has_rows else ""
+    return f'<div class="folder">{listed}{readme}</div>'
 
 
 def markdown_html(nodes: list[Node]) -> str:
@@ -187,25 +111,21 @@ def data(own: str, value: Any) -> str:
     return f'<script type="application/json" id="{own}">{text}</script>\n'
 
 
-def file_page(view: View, name: str, project: str, search: str) -> Iterator[str]:
-    """The page of a file or a folder, piece by piece: the text first, then what takes longer.
-    Raises Refused before the first piece."""
+def file_page(shown: Shown, start: str = "", has_all: bool = False) -> Iterator[str]:
+    """The page of a file or a folder, piece by piece: the text first, then what takes longer;
+    `start` is what comes before a folder's files, or in their place with `has_all`. Raises Refused
+    before the first piece."""
+    view, name, project, _ = shown
     path = view.path(name)
     with view.answering():
         is_folder = os.path.isdir(path)
         text = "" if is_folder else view.text(path)
-    content = folder_content(view, name) if is_folder else code(lines_in(text), name, view.revision)
-    top, bottom = template("page.html").template.split("$content")
-    values = {
-        "title": html(name or project),
-        "crumbs": crumbs(name, project, view.revision),
-        "search": escape(search),
-        "tree": tree(view.folder, name, view.revision),
-    }
-    yield Template(top).substitute(values) + content + Template(bottom).substitute(values)
-    if not is_folder:
+    if is_folder:
+        yield framed(shown, name or project, start + folder_content(view, name, not has_all))
+    else:
+        yield framed(shown, name, code(lines_in(text), name, view.revision), "files")
         yield from file_data(view, path, name, text)
-    yield "</body>\n</html>\n"
+    yield END
 
 
 def file_data(view: View, path: str, name: str, text: str) -> Iterator[str]:
@@ -225,9 +145,13 @@ def file_data(view: View, path: str, name: str, text: str) -> Iterator[str]:
 
 def error_page(fault: Refused, project: str) -> str:
     """The page of a request that isn't served, with what to do."""
+    advice = escape(fault.advice or "The folder's files are listed on its own page.")
+    if fault.word:
+        search = f"/search?text={quote(fault.word)}"
+        advice = f'<a href="{search}">Names and texts that have {html(fault.word)}</a>'
     return template("error.html").substitute(
         status=fault.status,
         fault=escape(str(fault)),
-        advice=escape(fault.advice or "The folder's files are listed on its own page."),
+        advice=advice,
         project=escape(project),
     )

@@ -2,6 +2,7 @@
 and those of the index lead to one another."""
 
 import os
+import re
 import threading
 from contextlib import contextmanager, suppress
 from typing import Iterator, Optional
@@ -18,24 +19,38 @@ from codenav.texts.moved.tokens import tokens_of
 from codenav.texts.places import Place
 from codenav.texts.revisions import Checkout
 
+WORD = re.compile(r"\w+")
 TODAY = "Without ?revision= in the address the page is that of today's file."
 
 
 class View:
-    """The texts of a folder, of today or of a revision, and what asks the index at their places.
+    """The texts of a folder, of today or of a revision, and what asks the index at their places;
+    `below` is the folder in it whose project is asked, and with `is_alone` no settings count that
+    the files have.
 
     Git's processes answer one at a time, so whoever asks a view holds its lock.
     """
 
     def __init__(
-        self, folder: Folder, settings: Settings, revision: str = "", is_by_name: bool = False
+        self,
+        folder: Folder,
+        settings: Settings,
+        revision: str = "",
+        is_by_name: bool = False,
+        below: str = "",
+        is_alone: bool = False,
     ) -> None:
         self.folder, self.settings, self.revision = folder, settings, revision
         self.checkout = Checkout(revision) if revision else None
         self.notes: list[str] = []
         self.lock, self.texts = threading.RLock(), Texts(self.read)
         self.workspace = Workspace(
-            folder.given, settings, self.notes.append, self.today, is_by_name
+            os.path.join(folder.given, below) if below else folder.given,
+            settings,
+            self.notes.append,
+            self.today,
+            is_by_name,
+            is_alone,
         )
 
     def end(self) -> None:
@@ -81,6 +96,15 @@ class View:
     def lines(self, path: str) -> list[str]:
         """The lines of a file."""
         return self.texts.of(path).lines
+
+    def word(self, at: Place) -> str:
+        """The word at a place, or nothing."""
+        text = self.texts.of(at.name)
+        if at.line >= len(text.lines):
+            return ""
+        own = text.characters(at.line, at.character)
+        found = WORD.finditer(text.lines[at.line])
+        return next((one[0] for one in found if one.start() <= own < one.end()), "")
 
     def path(self, name: str) -> str:
         """The whole path of a file or folder; raises Refused. A file of a revision needs none of

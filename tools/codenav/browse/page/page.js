@@ -4,7 +4,7 @@ import { openFinder } from "./finder.js";
 import { beside, code, indexLabel, isUnknown, learn, lineOf, mark, markLines, rangeOf, setUnknown, textOf, watch, wordAt, wordAtPoint } from "./lines.js";
 import { closePanel, focusList, isOf, isOpen, moveFocus, nextPlace, openPanel, restorePanel } from "./panel.js";
 import { areLettersKeys } from "./settings.js";
-import { fillSymbols, followSymbol } from "./symbols.js";
+import { fillSymbols, firstLine, followSymbol, lineAbove, watchSymbols } from "./symbols.js";
 import { hideTip, showTip } from "./tip.js";
 import { watchTree } from "./tree.js";
 
@@ -21,6 +21,7 @@ const revision = new URLSearchParams(location.search).get("revision") ?? "";
 let word = null; // the word that is asked about
 let range = null; // the first and the last line that the address names
 let quiet = 0;
+let opener = null; // the link that opened the panel on a page that isn't a file's text
 
 // What is said stays seen for some seconds; what the panel shows is told to readers of screens alone.
 function say(text, isSeen = true) {
@@ -30,22 +31,24 @@ function say(text, isSeen = true) {
   quiet = setTimeout(() => element("status").classList.remove("seen"), SAID);
 }
 
-async function fetched(path, parameters, of = revision) {
-  const response = await fetch(`${path}?${new URLSearchParams(of ? { ...parameters, revision: of } : parameters)}`);
+// The path of a file is sent as it stands in addresses, since a name may be no UTF-8.
+async function fetched(path, { path: name, ...parameters }, of = revision) {
+  const query = new URLSearchParams(of ? { ...parameters, revision: of } : parameters);
+  const own = name === undefined ? "" : `path=${name.replace(/[&+;]/g, encodeURIComponent)}&`;
+  const response = await fetch(`${path}?${own}${query}`);
   const answer = await response.json();
   if (!response.ok) throw new Error(answer.fault);
   return answer;
 }
 
-function at(place) {
-  return { path: code.dataset.path, line: place.line - 1, character: place.start };
+function at(place, path = code.dataset.path) {
+  return { path, line: place.line - 1, character: place.start };
 }
 
 function show(place, focus) {
   word = place;
-  element("search").disabled = !place;
   mark(place, focus);
-  if (place) followSymbol(place.line);
+  followSymbol();
   if (place && isUnknown(place)) say(`not in ${indexLabel() || "the text that was indexed"}`);
 }
 
@@ -67,7 +70,7 @@ function follow() {
   line.scrollIntoView({ block: "center", inline: "nearest" });
   show(parts[2] ? wordAt(number, Number(parts[2]) - 1) : null, true);
   markLines(...range);
-  followSymbol(number);
+  followSymbol();
   if (parts[4] && word && !isOf(word)) panel();
   else restorePanel(question);
   if (isOpen()) seen();
@@ -87,8 +90,7 @@ function seen() {
 
 async function question(place, what, more, page) {
   const [path, query] = (page ?? location.pathname + location.search).split("?");
-  const name = page ? decodeURIComponent(path.slice("/files/".length)) : code.dataset.path;
-  const answer = await fetched("/ask", { what, ...more, ...at(place), path: name }, new URLSearchParams(query).get("revision") ?? "");
+  const answer = await fetched("/ask", { what, ...more, ...at(place, path.slice("/files/".length)) }, new URLSearchParams(query).get("revision") ?? "");
   if (answer.is_new && !page) setUnknown(place);
   return answer;
 }
@@ -149,7 +151,7 @@ function close() {
   if (document.body.classList.contains("drawer")) return toggle();
   closePanel();
   if (location.hash.endsWith("&refs")) history.replaceState(null, "", location.hash.replace("&refs", ""));
-  element("word")?.focus({ preventScroll: true });
+  (element("word") ?? opener)?.focus({ preventScroll: true });
 }
 
 // The left is hidden, or in a narrow window a drawer over the text.
@@ -166,8 +168,31 @@ function symbols() {
   (document.querySelector("#outline [aria-current]") ?? document.querySelector("#outline a"))?.focus();
 }
 
-function search() {
-  if (word && searchAddress) window.open(searchAddress.replace("{}", encodeURIComponent(textOf(word))), "_blank", "noopener");
+function search(event) {
+  event?.preventDefault();
+  const text = word ? encodeURIComponent(textOf(word)) : "";
+  if (text && searchAddress) window.open(searchAddress.replace("{}", text), "_blank", "noopener");
+  else location.assign(`/search?text=${text}${revision ? `&revision=${encodeURIComponent(revision)}` : ""}`);
+}
+
+// A word of a page that isn't a file's text: its link says where it is.
+function clickElsewhere(event) {
+  const link = event.target.closest("a[href]");
+  const url = link && new URL(link.href);
+  const [line, column] = (url?.searchParams.get("at") ?? "").split(".").map(Number);
+  if (!column || event.ctrlKey || event.metaKey || event.altKey || event.shiftKey) return;
+  event.preventDefault();
+  if (!getSelection().isCollapsed) return;
+  opener = link;
+  const of = url.searchParams.get("revision");
+  const place = { line, start: column - 1, end: column - 1 + link.textContent.length };
+  openPanel(place, link.textContent, question, url.pathname + (of ? `?revision=${encodeURIComponent(of)}` : ""))
+    .then((answers) => answers && say(answers.references?.said ?? answers.fault, false));
+}
+
+function up() {
+  const line = lineAbove(word?.line ?? range?.[0] ?? firstLine(), Boolean(word));
+  if (line) go(`${location.pathname}${location.search}#L${line}`);
 }
 
 async function address() {
@@ -197,8 +222,15 @@ function findFile() {
   openFinder("File, by some letters of its name", (text) => fetched("/find", { text }), go);
 }
 
+// Behind the names, one row leads to the page of all that has the text.
+function withTexts(text, answer) {
+  const of = revision ? `&revision=${encodeURIComponent(revision)}` : "";
+  return { ...answer, names: [...answer.names, { name: `Texts with ${text}`, place: "", href: `/search?text=${encodeURIComponent(text)}${of}` }] };
+}
+
 function findName() {
-  openFinder("Name, by a part of it", async (text) => (text ? fetched("/names", { prefix: text }) : { names: [], said: "" }), go);
+  const own = code ? { path: code.dataset.path } : {};
+  openFinder("Name, by a part of it", async (text) => (text ? withTexts(text, await fetched("/names", { prefix: text, ...own })) : { names: [], said: "" }), go);
 }
 
 // Mouse and keys
@@ -248,7 +280,7 @@ async function step(direction) {
 
 const KEYS = {
   f: findFile, "/": findName, b: toggle, o: symbols, d: definition, r: references, h: hoverHere, s: search, y: address,
-  n: () => step(1), p: () => step(-1), x: () => element("larger").click(), "?": () => element("help").showModal(),
+  n: () => step(1), p: () => step(-1), u: up, x: () => element("larger").click(), "?": () => element("help").showModal(),
 };
 
 function press(event) {
@@ -269,11 +301,11 @@ function press(event) {
 
 const CLICKS = { toggle, files: findFile, names: findName, search, address, keys: KEYS["?"], close, larger: () => { document.body.classList.toggle("larger"); seen(); } };
 for (const [id, action] of Object.entries(CLICKS)) element(id).addEventListener("click", action);
-element("search").hidden = !searchAddress;
 document.addEventListener("keydown", press);
 addEventListener("hashchange", follow);
 addEventListener("popstate", () => { if (!location.hash.endsWith("&refs")) restorePanel(question); });
 watchTree(fetched, say);
+if (!code) main.addEventListener("click", clickElsewhere);
 if (code) {
   element("address").disabled = false;
   code.addEventListener("click", click);
@@ -284,7 +316,8 @@ if (code) {
   main.addEventListener("scroll", leave);
   watch(main);
   follow();
-  fetched("/outline", { path: code.dataset.path }).then(({ names }) => fillSymbols(names, word?.line ?? range?.[0] ?? 1), () => {});
+  watchSymbols(main, () => word?.line ?? range?.[0] ?? 0);
+  fetched("/outline", { path: code.dataset.path }).then(({ names }) => fillSymbols(names), () => {});
   const learnt = () => { learn(); if (word) show(word, false); };
   if (document.readyState === "loading") document.addEventListener("DOMContentLoaded", learnt);
   else learnt();

@@ -110,7 +110,7 @@ function draw() {
 async function askAll(own) {
   try {
     for (const what of ["hover", "definition", "references"]) {
-      own[what] = await ask(own.word, what, what === "references" ? { start: own.start, only: own.only } : {});
+      own[what] = await ask(own.word, what, what === "references" ? { start: own.start, only: own.only } : {}, own.page === location.pathname + location.search ? undefined : own.page);
       if (own !== state) return null;
       draw();
     }
@@ -124,9 +124,9 @@ async function askAll(own) {
 }
 
 // Opens the panel of a word: `question` asks the server about it.
-export function openPanel(word, text, question) {
+export function openPanel(word, text, question, page = location.pathname + location.search) {
   ask = question;
-  state = { page: location.pathname + location.search, word, text, start: 0, only: "", hover: null, definition: null, references: null };
+  state = { page, word, text, start: 0, only: "", hover: null, definition: null, references: null };
   draw();
   element("answers").scrollTop = 0;
   return askAll(state);
@@ -216,5 +216,5 @@ element("before").addEventListener("click", () => page(-1));
 element("after").addEventListener("click", () => page(1));
 element("only").addEventListener("input", (event) => turn({ only: event.target.value, start: 0 }));
 element("places").addEventListener("click", (event) => {
-  if (event.target.matches(".again")) openPanel(state.word, state.text, ask);
+  if (event.target.matches(".again")) openPanel(state.word, state.text, ask, state.page);
 });

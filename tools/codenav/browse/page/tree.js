@@ -17,7 +17,7 @@ async function more(button, fetched) {
   const [start, end] = [Number(button.dataset.start), Number(button.dataset.end)];
   const before = button.dataset.before === "true";
   const [from, to] = before ? [Math.max(start, end - MOST), end] : [start, Math.min(end, start + MOST)];
-  const answer = await fetched("/list", { at: button.dataset.at, start: from, end: to });
+  const answer = await fetched("/list", { path: button.dataset.path, start: from, end: to });
   const place = button.parentElement;
   place[before ? "after" : "before"](...answer.entries.map(item));
   Object.assign(button.dataset, before ? { end: from } : { start: to });
@@ -34,8 +34,7 @@ async function toggle(link, fetched) {
   else {
     list = made("ul", "");
     folder.append(list);
-    const at = `${decodeURIComponent(link.pathname.slice("/files/".length))}/`;
-    const { entries } = await fetched("/list", { at, start: 0, end: MOST });
+    const { entries } = await fetched("/list", { path: `${link.pathname.slice("/files/".length)}/`, start: 0, end: MOST });
     list.append(...entries.map(item));
     if (entries.length === MOST) list.append(item({ name: "all of it", href: link.href }));
   }

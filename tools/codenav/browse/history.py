@@ -1,0 +1,158 @@
+"""The history of a file: its commits, and the commit that each of its lines is of, by git. Nothing
+that a repository's settings name is run."""
+
+import os
+import time
+from typing import NamedTuple, Optional
+
+from codenav.browse.changes import same_lines
+from codenav.browse.folder import Refused
+from codenav.browse.view import View
+from codenav.faults import BadCall
+from codenav.texts.decoded import decoded, lines_in
+from codenav.texts.git import checked_top, commit_of, git
+
+MOST_COMMITS = 50
+LAST = 253402300799
+"""The last second of the year 9999."""
+FIELDS = "--format=%H%x00%at%x00%an%x00%s"
+LOG = ("log", "-z", "--follow", "--name-only", "--encoding=UTF-8", FIELDS)
+PLAIN = ("--no-ext-diff", "--no-textconv", "--no-show-signature", "--no-mailmap")
+BLAME = ("blame", "--porcelain", "--no-textconv")
+
+
+class Commit(NamedTuple):
+    """A commit: its name, when it was made, by whom, its first line, and what the file was called
+    there, from the folder that is shown on."""
+
+    name: str
+    time: int
+    author: str
+    subject: str
+    file: str
+
+    def day(self) -> str:
+        """The day when it was made."""
+        return day_of(self.time)
+
+
+def day_of(seconds: int) -> str:
+    """The day of a time of git."""
+    return time.strftime("%Y-%m-%d", time.gmtime(min(max(seconds, 0), LAST)))
+
+
+class Repository(NamedTuple):
+    """The work tree that a file is in, what the file is called there, the commit of the revision
+    that is shown, and what leads from the folder that is shown to the work tree's top."""
+
+    top: str
+    name: str
+    commit: str
+    above: str
+
+    def shown(self, name: str) -> str:
+        """A file of the work tree as it's called from the folder on."""
+        return os.path.normpath(os.path.join(self.above, name))
+
+
+def repository_of(view: View, path: str, revision: str = "") -> Repository:
+    """Where the history of a file is, of a revision, or of the one that is shown. Raises Refused."""
+    real = os.path.realpath(path)
+    folder = os.path.dirname(real)
+    while not os.path.isdir(folder):
+        folder = os.path.dirname(folder)
+    try:
+        top = os.path.realpath(checked_top(folder))
+        commit = commit_of(top, revision or view.revision or "HEAD")
+    except BadCall as fault:
+        raise Refused(404, str(fault)) from None
+    return Repository(
+        top, os.path.relpath(real, top), commit, os.path.relpath(top, view.folder.top)
+    )
+
+
+def said_of(where: Repository, *words: str) -> bytes:
+    """What git prints of a file; raises Refused where that's nothing, or takes too long."""
+    try:
+        printed = git(where.top, *words, variables={"GIT_LITERAL_PATHSPECS": "1"})
+    except BadCall as fault:
+        raise Refused(503, str(fault), "Its history is long: a revision before has less.") from None
+    if printed is None:
+        raise Refused(404, f"{where.name}: not in {where.commit[:12]}")
+    return printed
+
+
+def commits(view: View, path: str, skip: int) -> tuple[list[Commit], bool]:
+    """Some commits that changed a file, also under the names that it had before, the last one first;
+    and whether there are more. Raises Refused."""
+    where = repository_of(view, path)
+    some = (f"--skip={skip}", f"--max-count={MOST_COMMITS + 1}")
+    words = (*LOG, *PLAIN, *some, where.commit, "--", where.name)
+    printed = said_of(where, *words)
+    found: list[Commit] = []
+    fields = os.fsdecode(printed).split("\0")
+    at, name = 0, where.name
+    while at + 3 < len(fields):
+        own, when, author, subject = fields[at : at + 4]
+        at += 4
+        if fields[at : at + 1] and fields[at].startswith("\n"):
+            name, at = fields[at][1:], at + 1
+        found.append(Commit(own, int(when or 0), author, subject, where.shown(name)))
+    return found[:MOST_COMMITS], len(found) > MOST_COMMITS
+
+
+def blamed(view: View, path: str) -> list[tuple[Optional[Commit], int, int]]:
+    """The lines of a file as runs that are of one commit each: the commit, or None of what isn't
+    committed, the first line from 0 and the one behind the last. Raises Refused."""
+    where = repository_of(view, path)
+    printed = said_of(where, *BLAME, where.commit, "--", where.name)
+    known, owners, body = porcelain(printed, where)
+    lines = view.lines(path)
+    try:
+        committed = lines_in(decoded(body))
+    except ValueError as fault:
+        raise Refused(403, f"{where.name}: {fault} in {where.commit[:12]}") from None
+    pairs = dict((new, old) for old, new in same_lines(committed, lines))
+    runs: list[tuple[Optional[Commit], int, int]] = []
+    for number in range(len(lines) - (not lines[-1])):
+        old = pairs.get(number, len(owners))
+        owner = known[owners[old]] if old < len(owners) else None
+        if runs and runs[-1][0] == owner:
+            runs[-1] = owner, runs[-1][1], number + 1
+        else:
+            runs.append((owner, number, number + 1))
+    return runs
+
+
+def porcelain(printed: bytes, where: Repository) -> tuple[dict[str, Commit], list[str], bytes]:
+    """The commits that `git blame --porcelain` prints, the one of each line, and the lines."""
+    known: dict[str, Commit] = {}
+    lines: list[bytes] = []
+    owners: list[str] = []
+    words: dict[str, str] = {}
+    name = ""
+    for line in printed.split(b"\n"):
+        if line.startswith(b"\t"):
+            if name not in known:
+                file = where.shown(unquoted(words.get("filename", "")))
+                when = int(words.get("author-time", "0"))
+                known[name] = Commit(
+                    name, when, words.get("author", ""), words.get("summary", ""), file
+                )
+            owners.append(name)
+            lines.append(line[1:])
+            name, words = "", {}
+        elif not name:
+            name = line.split(b" ")[0].decode("ascii", "replace")
+        else:
+            key, _, value = os.fsdecode(line).partition(" ")
+            words[key] = value
+    return known, owners, b"\n".join(lines)
+
+
+def unquoted(name: str) -> str:
+    """A file's name that git quotes as C does, where it has to."""
+    if not (name.startswith('"') and name.endswith('"') and len(name) > 1):
+        return name
+    body = os.fsencode(name[1:-1]).decode("latin-1")
+    return os.fsdecode(body.encode("latin-1").decode("unicode_escape").encode("latin-1"))
