@@ -6,6 +6,6 @@ import sys
 if not __package__:
     sys.path[0] = os.path.dirname(os.path.dirname(os.path.abspath(__file__)))
 
-from codenav.cli.main import run
+from codenav.cli.start import run
 
 run()

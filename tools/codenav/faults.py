@@ -34,6 +34,10 @@ class NoReply(BadCall):
     code where there is one."""
 
 
+class NoDocument(NoReply):
+    """The same of a document that no project has."""
+
+
 class Failed(Fault):
     """A trial that can't go on."""
 

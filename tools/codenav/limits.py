@@ -6,6 +6,7 @@ MOST_ELEMENTS = 100_000
 MOST_BODY_BYTES = 33_554_432
 MOST_LINE_BYTES = 1_048_576
 MOST_TAG_LINES = 100_000
+MOST_TAG_BYTES = 65_536
 
 
 def excesses(elements: int, body_bytes: int, longest_line: int) -> list[Excess]:

@@ -7,6 +7,7 @@ import shutil
 import signal
 import socket
 import subprocess
+from collections import deque
 from dataclasses import dataclass
 from pathlib import Path
 from typing import Iterator, NamedTuple, Optional
@@ -24,11 +25,21 @@ END_WITH_PARENT = 1
 NONE = "the program codenav isn't here: CODENAV_PROGRAM names it, or a package or a clone has it"
 
 
+# the last ports that were free, each with a socket that keeps it from all who name none
+KEPT: "deque[socket.socket]" = deque(maxlen=100)
+
+
 def free_port() -> int:
-    """A port of this machine that nobody listens on now."""
-    with socket.socket() as one:
-        one.bind(("127.0.0.1", 0))
-        port: int = one.getsockname()[1]
+    """A port of this machine that nobody listens on. A socket that's bound to it and doesn't listen
+    keeps it, since the system would give it to a connection before a server has it; who names it
+    gets it, as each server does that may be started again (SO_REUSEADDR)."""
+    one = socket.socket()
+    one.setsockopt(socket.SOL_SOCKET, socket.SO_REUSEADDR, 1)
+    one.bind(("127.0.0.1", 0))
+    if len(KEPT) == KEPT.maxlen:
+        KEPT.popleft().close()
+    KEPT.append(one)
+    port: int = one.getsockname()[1]
     return port
 
 

@@ -1,6 +1,6 @@
 """What a project's index says of itself: `publish` adds to a dump a document at an address of its
-own, whose hover is a record of the commit that was indexed. So it's replaced and removed with the
-dump, and is never that of another one.
+own, whose hover is a record of the commit that was indexed, and to tags one that says theirs. So
+each is replaced and removed with what it's of, and is never that of another one.
 """
 
 import json
@@ -12,10 +12,14 @@ from typing import Any, Iterator, NamedTuple, Optional
 from codenav.addresses import folder_address
 
 ADDRESS = "codenav:index"
+MORE_OF, MORE_ON = "codenav:more:", "codenav:lists:"
+"""How the addresses begin of documents that have more of the places of another, and of all of it."""
 AT = {"uri": ADDRESS, "line": 0, "character": 0}
 """Where a project is asked for the record, by a hover."""
 COMMIT = re.compile(r"[0-9a-f]{40}|[0-9a-f]{64}")
 MARK_BYTES = 16
+OWN_TAG = "\x02index"
+"""The name of the tag, which no search for names finds by chance."""
 MOST_DOCUMENTS = 100
 MARKS = re.compile(ADDRESS.encode() + rb"|\\u")
 
@@ -47,6 +51,20 @@ def record_in(contents: Any) -> Optional[Record]:
         return None
     record = Record(*values)
     return record if not record.revision or COMMIT.fullmatch(record.revision) else None
+
+
+def line_of(revision: str) -> bytes:
+    """The line of a tags file that says of which commit it is, if of any."""
+    return b'\\x02index\t.\t1;"\tindex\trevision:%b\n' % revision.encode()
+
+
+def revision_in(tags: list[dict[str, Any]]) -> Optional[str]:
+    """The commit that the tags of a project are of, by those of the record's name; empty where it
+    says none, and None where there is no record."""
+    for tag in tags:
+        found = dict(tag["fields"]).get("revision", "")
+        return found if COMMIT.fullmatch(found) else ""
+    return None
 
 
 def elements_of(record: Record, ids: Iterator[str]) -> Iterator[dict[str, Any]]:
@@ -104,7 +122,7 @@ class Prepared:
             self.root = folder_address(root) if isinstance(root, str) and root else ""
         elif element["label"] == "document":
             self.is_recorded = self.is_recorded or element["uri"] == ADDRESS
-            if element["uri"] != ADDRESS:
+            if not element["uri"].startswith((ADDRESS, MORE_OF, MORE_ON)):
                 self.above = common_folder(self.above, element["uri"])
                 self.documents.append(element["uri"])
         elif element["label"] == "hoverResult":

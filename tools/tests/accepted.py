@@ -3,7 +3,7 @@ slowly: what the tests hold the tools' output to."""
 
 import json
 import re
-from typing import Any, Callable, Optional
+from typing import Any, Optional
 
 from codenav.urls import href
 
@@ -13,7 +13,6 @@ MOST_ID, MOST_NUMBER, MOST_LINE, MOST_LEVELS = 9007199254740991, 2147483647, 1_0
 MOST_ELEMENTS = 100_000
 HALF = re.compile("[\ud800-\udfff]")
 ROLES = ("definitions", "references", "referenceResults")
-TEXT_LABELS = {"resultSet", "definitionResult", "referenceResult", "project", "metaData"}
 RESULTS = {
     "1": {
         "textDocument/definition": "definitionResult",
@@ -362,6 +361,3 @@ def fault(body: bytes, profile: str) -> Optional[str]:
             return f"line {number}: {code}"
     found = checker.end() if number else (1, "L06")
     return f"line {found[0]}: {found[1]}" if found else None
-
-
-Accept = Callable[[bytes, str], Optional[str]]

@@ -1,5 +1,5 @@
 """Dumps whose shapes could take a splitter too long or too much memory, of any size: for small
-tests, and for `bench/splitting.py`."""
+tests, and for `bench/sets.py`."""
 
 from typing import Any, Callable, Iterator
 

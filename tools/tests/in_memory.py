@@ -10,7 +10,7 @@ from codenav.faults import NoReply
 from codenav.sets.manifest import Tag, tag_of
 from codenav.sets.publish.store import Store
 from codenav.sets.ring import Ring
-from tests.dump_walks import Question, Walk, answered
+from tests.dump_walks import OF_PROFILE, Question, Walk, answered
 
 FRONT, NO_TAGS = "front", b"?"
 
@@ -87,6 +87,8 @@ def found_in(state: State, path: str, parameters: dict[str, Any]) -> Any:
     walks = {name: own.dump for name, own in state.items() if own.dump is not None}
     if project not in walks:
         raise NoReply("D01 no such project")
+    if what == "profile":
+        return int(walks[project].requests == OF_PROFILE["2"]) + 1
     uri = parameters["uri"]
     if not any(one.get("uri") == uri for one in walks[project].vertices.values()):
         raise NoReply("D02 no such document")

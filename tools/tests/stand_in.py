@@ -130,6 +130,7 @@ def replay(call: argparse.Namespace) -> int:
         reply = next_reply(index, stream)
         while reply is not None:
             sys.stdout.buffer.write(reply.text())
+            sys.stdout.buffer.flush()
             reply = None if reply.ends else next_reply(index, stream)
     index.file.close()
     return 0

@@ -83,6 +83,8 @@ MADE: dict[str, Optional[str]] = {
     "http://1.2.3.4.": "http://1.2.3.4/",
     "http://256.1.1.1/": None,
     "http://a.1/": None,
+    "http://1.2.3.4.0/": None,
+    "http://1_0.2/": None,
     "http://[::ffff:1.2.3.4]/": "http://[::ffff:102:304]/",
     "http://[::1/": None,
     "http://a%41\u00e9/": "http://xn--aa-cja/",
@@ -94,7 +96,7 @@ MADE: dict[str, Optional[str]] = {
     "a": None,
     "": None,
 }
-HOSTS = "localhost LOCALHOST h.com 1.2.3.4 0x7f.1 1.2 [::1] u@h u:p@h h:80 h: a%41 %zz C: c| .. . h] wsl+ubuntu 09 256.1"
+HOSTS = "localhost LOCALHOST h.com 1.2.3.4 0x7f.1 1.2 [::1] u@h u:p@h h:80 h: a%41 %zz C: c| .. . h] wsl+ubuntu 09 256.1 1.2.3.4.0 1_0.2"
 SEGMENTS = ".. . %2e %2E%2e .%2e C: c| C%3A [x] (1) @+,=& %\u00e9 %c3%a9 \\ a\\b a^b|{}` \"<> ' a:b rt.jar! ~ ; a%2Fb %00"
 TAILS = "?x #y ?a#c ?' #` ?\"<> ?\u00e9#\u00e9 ?%zz #?x ? #"
 SCHEMES = "file http https ws foo jar git untitled urn vscode-remote a+b A.b-c FILE HtTp"

@@ -177,7 +177,10 @@ class Asking(OnServer):
     def test_what_is_loaded(self) -> None:
         """Modules that take long to load, as long as a question or more, aren't."""
         slow = {"dataclasses", "inspect", "shutil", "subprocess", "tomllib", "codenav.program"}
-        code = f"import sys, codenav.cli.main, codenav.cli.ask; print({slow} & set(sys.modules))"
+        code = (
+            "import sys; first = set(sys.modules); import codenav.cli.main, codenav.cli.ask;"
+            f"print({slow} & set(sys.modules) - first)"
+        )
         words = [sys.executable, "-c", code]
         done = subprocess.run(
             words, cwd=os.path.join(TOP, "tools"), capture_output=True, check=True

@@ -15,6 +15,7 @@ from codenav.cli.prepare import PREPARE
 from codenav.cli.projects import LIST, REMOVE
 from codenav.cli.publish import PUBLISH
 from codenav.cli.upload import UPLOAD
+from tests.packages import needs
 from tests.servers import TOP
 from tests.test_client import FOUND, Peer, environment, head_of, sends, status
 
@@ -109,6 +110,7 @@ class Files(unittest.TestCase):
         )
 
     def test_indexes(self) -> None:
+        needs("google.protobuf", "python3-protobuf")
         with open(SCIP, "rb") as file:
             scip = file.read()
         for name, body in (

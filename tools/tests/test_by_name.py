@@ -16,6 +16,7 @@ from codenav.cli.ask import ASK
 from codenav.cli.browse import BROWSE, browser_of
 from codenav.cli.upload import UPLOAD
 from codenav.faults import NoReply
+from codenav.records import line_of
 from codenav.settings.found import FILE, Settings
 from codenav.texts.decoded import text_of
 from codenav.texts.places import Place, uri_of
@@ -36,6 +37,7 @@ TAGS = (
     ("twice", "src/help.c", "/^static int twice(int x) { return 2 * x; }$/"),
     ("twice_as_much", "lib/main.h", "1"),
 )
+LINES = "".join(map("{0[0]}\t{0[1]}\t{0[2]}\n".format, TAGS))
 ALONE = "app has tags alone"
 
 
@@ -64,7 +66,7 @@ class OverTags(OnServer):
         self.folder = os.path.realpath(self.enterContext(tempfile.TemporaryDirectory()))
         for name, text in {
             **FILES,
-            "tags": "".join(map("{0[0]}\t{0[1]}\t{0[2]}\n".format, TAGS)),
+            "tags": LINES + line_of("").decode(),
         }.items():
             path = os.path.join(self.folder, name)
             os.makedirs(os.path.dirname(path), exist_ok=True)
@@ -147,13 +149,19 @@ class OverTags(OnServer):
         main = os.path.join(self.folder, "src/main.c")
         for project in "app", "dump":
             self.assertEqual(self.asked(project, "names", "none"), (1, [], ""))
+        tags = os.path.join(self.folder, "others")
+        self.written(tags, LINES)
+        self.put("others", tags)
         unknown = (
-            f"codenav ask: ap isn't known to {self.url}: it has no dump, and no tag whose name "
+            f"isn't known to {self.url}: it has no dump, and no tags that `codenav publish` made"
         )
-        unknown += "begins with a letter\n"
-        self.assertEqual(self.asked("ap", "names", "none"), (2, [], unknown))
-        status, _, said = self.asked("ap", "definition", main, "2", "27")
-        self.assertEqual((status, said.split(":")[1]), (2, " D01 project has no dump"))
+        for project in "ap", "others":  # others has tags that don't say so
+            wanted = (2, list[str](), f"codenav ask: {project} {unknown}\n")
+            self.assertEqual(self.asked(project, "names", "none"), wanted)
+            status, _, told = self.asked(project, "hover", main, "2", "27")
+            self.assertEqual((status, told.split(":")[1]), (2, " D01 project has no dump"))
+        status, found, _ = self.asked("others", "definition", main, "2", "27")
+        self.assertEqual((status, found), (0, ["lib/area.c:1:5"]))
 
     def uri(self, name: str) -> str:
         """The address of a file."""
@@ -219,7 +227,8 @@ class OverTags(OnServer):
                 self.assertEqual(editor.end("shutdown", "exit")[0], 0)
         call = BROWSE.read(["--by-name", self.folder])
         at_area = {"path": "src/main.c", "line": "1", "character": "26"}
-        found = browser_of(call).asked({"what": "definition", **at_area})
+        with browser_of(call) as browser:
+            found = browser.asked({"what": "definition", **at_area})
         self.assertEqual([row["href"] for row in found["places"]], ["/files/lib/area.c#L1C5"])
 
     def test_the_page(self) -> None:

@@ -64,7 +64,8 @@ class Written(OnServer, InRepository):
             status, said, warned = quietly(ASK.main, *maps, *words)
             self.assertEqual((status, os.path.abspath(said)), (0, f"{scale}:4:8\n"), warned)
         at = os.path.join(self.top, "src")
-        settings = browser_of(BROWSE.read([at])).settings
+        with browser_of(BROWSE.read([at])) as browser:
+            settings = browser.settings
         self.assertEqual(settings[:4], (self.url, "app", self.top, [(root, self.top)]))
 
     def test_other_settings(self) -> None:

@@ -7,9 +7,11 @@ import os
 import shlex
 import signal
 import subprocess
+import sys
 import tempfile
 import time
 import unittest
+from collections import Counter
 from pathlib import Path
 from typing import ContextManager
 from unittest import mock
@@ -27,7 +29,7 @@ from tests.servers import TOP, command
 RAW = os.path.join(TOP, "demo", "crate.raw.lsif")
 BODY = "codenav.dumps.scip.documents.body_of"
 SECONDS = 60
-GOES_ON = 15
+GOES_ON = 60
 
 
 def processes_with(mark: str) -> list[str]:
@@ -88,6 +90,7 @@ class Ended(unittest.TestCase):
         lines = ["sleep 300", "sleep 300; true", "(sleep 300 & wait) & sleep 300"]
         rows = [
             (signal.SIGTERM, 143, "codenav publish: ended by SIGTERM\n"),
+            (signal.SIGHUP, 129, "codenav publish: ended by SIGHUP\n"),
             (signal.SIGINT, 130, "codenav publish: ended by Ctrl-C\n"),
             (signal.SIGKILL, -9, ""),
         ]
@@ -121,6 +124,59 @@ class Ended(unittest.TestCase):
             if number != signal.SIGKILL:
                 self.assertEqual(os.listdir(work), [])
         return call.returncode, said, left
+
+    def test_signals_that_python_does_not_see(self) -> None:
+        """One that comes within a finaliser, and one that another thread of the process gets while
+        the call waits, end the call too."""
+        kill = "signal.pthread_kill(threading.get_ident(), number)"
+        rows = [
+            f"type('Dropped', (), {{'__del__': lambda _: {kill}}})()",
+            f"threading.Timer(0.2, lambda: {kill}).start()",
+        ]
+        for number in signal.SIGTERM, signal.SIGINT, signal.SIGHUP:
+            for line in rows:
+                lines = [
+                    "import os, signal, threading",
+                    "from codenav.cli.ends import end_by_signals, status_of",
+                    "def call():",
+                    f"    {line}",
+                    "    return os.read(os.pipe()[0], 1)[0]",
+                    f"number = {int(number)}",
+                    "end_by_signals()",
+                    "os._exit(status_of('x', call))",
+                ]
+                with self.subTest(line, number=number):
+                    done = subprocess.run(
+                        [sys.executable, "-c", "\n".join(lines)],
+                        cwd=os.path.join(TOP, "tools"),
+                        stdout=subprocess.PIPE,
+                        stderr=subprocess.PIPE,
+                        timeout=SECONDS,
+                        check=False,
+                        text=True,
+                    )
+                    name = {signal.SIGINT: "Ctrl-C"}.get(number, number.name)
+                    wanted = 128 + number, f"x: ended by {name}\n"
+                    self.assertEqual((done.returncode, done.stderr), wanted)
+
+    def test_as_it_starts(self) -> None:
+        """Ctrl-C is no traceback at any moment."""
+        words = [os.path.join(TOP, "codenav"), "ask", "http://127.0.0.1:1", "app", "names", "x"]
+        ends = Counter[int]()
+        moment = 0.001
+        while 2 not in ends and moment < SECONDS:
+            moment *= 1.15
+            with subprocess.Popen(words, stderr=subprocess.PIPE, text=True) as call:
+                time.sleep(moment)
+                call.send_signal(signal.SIGINT)
+                _, said = call.communicate(timeout=SECONDS)
+            ends[call.returncode] += 1
+            lines = said.splitlines()
+            self.assertLessEqual(len(lines), 1, said)
+            if call.returncode == 130:
+                self.assertRegex(said, "^codenav( ask)?: ended by Ctrl-C$")
+        # that of the shell before it starts Python, and in the end that of a call that was done
+        self.assertLessEqual(ends.keys(), {130, -signal.SIGINT, 2})
 
     def test_an_earlier_index(self) -> None:
         """What an earlier call kept isn't taken for what an indexer wrote."""

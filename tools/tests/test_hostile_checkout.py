@@ -102,9 +102,10 @@ class HostileCheckout(InRepository, OnServer):
         return {path: what for path, what in found.items() if path != self.temporary}
 
     def called(self, *words: str) -> tuple[int, str]:
-        """The status of a publish, and all that was printed."""
+        """The status of a publish, as a project or as a set of its own, and all that was printed."""
+        name = "set" if "--set" in words else "app"
         with redirect_stdout(io.StringIO()) as said, redirect_stderr(io.StringIO()) as warned:
-            status = PUBLISH.main([*words, self.url, "app", self.top])
+            status = PUBLISH.main([*words, self.url, name, self.top])
         return status, said.getvalue() + warned.getvalue()
 
     def tags(self) -> set[str]:
@@ -148,6 +149,22 @@ class HostileCheckout(InRepository, OnServer):
                         self.assertEqual(os.listdir(self.temporary), [])
             self.assertIn("own_0", self.tags())
             self.assertRaises(BlockingIOError, other.accept)
+
+    def test_settings_that_lead_outside(self) -> None:
+        """A link isn't followed to be written, whether something is there or not."""
+        self.write("plain.c", SOURCE.format(0))
+        self.commit()
+        words = ["--no-index", "--write-settings", "--overwrite"]
+        for name, text in ("none", None), ("empty", ""), ("other", 'project = "x"\n'):
+            if text is not None:
+                self.write(name, text, top=self.outside)
+            os.symlink(os.path.join(self.outside, name), os.path.join(self.top, FILE))
+            before = self.files()
+            status, said = self.called(*words)
+            wanted = f"codenav publish: {os.path.realpath(self.top)}/{FILE} is a link, which isn't "
+            self.assertEqual((status, said.splitlines()[-1][: len(wanted)]), (2, wanted))
+            self.assertEqual(self.files(), before)
+            os.unlink(os.path.join(self.top, FILE))
 
     def test_what_is_printed(self) -> None:
         """Of a hover its lines, and of names and of paths one line each."""

@@ -326,8 +326,20 @@ class Names(Crates):
                 if then is renamed:
                     self.git("mv", "n.py", "m.py", top=self.top)
 
+    def test_tags_of_another_commit(self) -> None:
+        """Tags say themselves of which they are, whatever the dump is of."""
+        text = CLASSES[: CLASSES.index("class B")] + CLASSES
+        self.write("m.py", text)
+        self.commit(self.top)
+        call = ["--no-index", self.url, "temperature", self.top]
+        self.assertEqual(quietly(PUBLISH.main, *call)[0], 0)
+        for more, lines in ("", (2, 7, 12, 17)), (ADDED, (7, 12, 17, 22)):
+            self.write("m.py", more + text)
+            found, said = self.names()
+            self.assertEqual((set(found), said), ({f"m.py:{line}:9" for line in lines}, ""))
+
     def test_requests(self) -> None:
-        """One more than without a record."""
+        """Two more than without a record of the tags, which was uploaded by hand."""
         asked: list[str] = []
         fetch = Fetcher.__call__
 
@@ -337,7 +349,7 @@ class Names(Crates):
 
         with mock.patch.object(Fetcher, "__call__", counted):
             self.names()
-        self.assertEqual(asked, ["/names", "/projects/temperature/hover"])
+        self.assertEqual(asked, ["/names", "/names", "/projects/temperature/hover"])
 
     def test_an_editor(self) -> None:
         """Also of a text that isn't saved."""
@@ -422,30 +434,27 @@ class Switched(OnServer, InRepository):
 
     def test_each_request(self) -> None:
         """Another revision is published before the n-th request of a question: the answer is that
-        of one of the two, wholly, with its places where they are today."""
-        for was_set in (False, True):
-            for is_set in (False, True):
-                for first in range(1, 10):
-                    self.put(1, was_set)
-                    asker = Asker(self, {first: self.putting(3, is_set, True)})
-                    self.assertEqual((asker.ask(), asker.said), (asker.right(), []))
-                    is_last = asker.requests < first
-                    self.assertEqual(asker.ask(), asker.right())
-                    if is_last:
-                        break
-                self.assertTrue(is_last)
+        of one of the two, wholly, with its places where they are today. A set stays one."""
+        for was_set, is_set in (False, False), (False, True), (True, True):
+            for first in range(1, 10):
+                self.put(1, was_set)
+                asker = Asker(self, {first: self.putting(3, is_set, True)})
+                self.assertEqual((asker.ask(), asker.said), (asker.right(), []))
+                is_last = asker.requests < first
+                self.assertEqual(asker.ask(), asker.right())
+                if is_last:
+                    break
+            self.assertTrue(is_last)
 
     def test_random_turns(self) -> None:
         """One asker meanwhile revisions come in any order, some of them without saying which they
-        are; then either that's said, or the answer is right."""
+        are; then either that's said, or the answer is right. What became a set stays one."""
         for seed in range(4):
             random = Random(seed)
-            turns = {
-                turn: self.putting(
-                    random.randrange(4), random.random() < 0.4, random.random() < 0.8
-                )
-                for turn in sorted(random.sample(range(2, 80), 16))
-            }
+            turns, first_set = {}, random.randrange(80)
+            for turn in sorted(random.sample(range(2, 80), 16)):
+                number, is_kept = random.randrange(4), random.random() < 0.8
+                turns[turn] = self.putting(number, turn >= first_set, is_kept)
             self.put(0, False)
             asker = Asker(self, turns)
             while asker.requests < 80:

@@ -38,7 +38,6 @@ FILE = re.compile(
 )
 # Files of other programs, of the toolchain, or that a reader makes.
 ELSEWHERE = {
-    *("display.rs", "error.rs"),
     *("init.lua", "settings.json", "languages.toml", ".codenav.toml"),
 }
 

@@ -15,24 +15,28 @@ import textwrap
 import time
 import unittest
 from contextlib import redirect_stderr, redirect_stdout
-from typing import Optional
+from typing import Any, Optional
 from unittest import mock
 
 from codenav import limits
 from codenav.cli.ask import ASK
-from codenav.cli.publish import PUBLISH, table
+from codenav.cli.projects import REMOVE
+from codenav.cli.publish import PUBLISH
+from codenav.cli.published import table
 from codenav.client.http import address, found_in, request
 from codenav.client.projects import listed
 from codenav.dumps.dump import is_scip
 from codenav.index.indexers import INDEXERS
 from codenav.outcome import LEFT_OUT, MENDED, NO_EFFECT, ROWS, Note, Outcome
 from codenav.publishing.made import Row, rows_of
+from codenav.program import Program
 from codenav.records import Prepared
+from codenav.service import digests
 from codenav.sets.files import MANIFEST, read_documents
 from codenav.sets.publish.publish import Publish as Made
 from codenav.sets.publish.store import Store
 from tests.repository import git_in
-from tests.servers import SECONDS, TOP, OnServer, command
+from tests.servers import SECONDS, STAND_IN, TOP, OnServer, command
 from tests.test_set_service import asked_at
 
 CRATE, RAW = os.path.join(TOP, "demo", "crate"), os.path.join(TOP, "demo", "crate.raw.lsif")
@@ -91,7 +95,7 @@ class OnCheckout(OnServer):
     def published(self, *words: str, url: Optional[str] = None) -> tuple[int, list[str], str]:
         """The status, what was printed, and the stages, without the seconds that they took."""
         with redirect_stdout(io.StringIO()) as said, redirect_stderr(io.StringIO()) as warned:
-            status = PUBLISH.main([url or self.url, *words])
+            status = PUBLISH.main([*([url or self.url] if url != "" else []), *words])
         stages = re.sub(r" \([0-9.]+ s\)$", "", warned.getvalue(), flags=re.MULTILINE)
         return status, said.getvalue().splitlines(), stages
 
@@ -113,6 +117,8 @@ class Publish(OnCheckout):
             (status, said[0]), (0, f"uploaded app: a dump of {count} elements, profile 1")
         )
         self.assertRegex(said[1], r"^uploaded app: [0-9]+ tags$")
+        # each stage counts the same, without the record
+        self.assertEqual({*re.findall(r"([0-9]+) tags", stages)}, {*re.findall("[0-9]+", said[1])})
         where = "file:///src/tr/crate"
         self.assertEqual(
             said[2], f"documents are below {where}: elsewhere ask with --map {where}=FOLDER"
@@ -184,8 +190,9 @@ class Publish(OnCheckout):
         count = int(said[0].split()[5])
         self.assertEqual((status, said[0].split()[1:5]), (0, ["app:", "a", "dump", "of"]))
         for most, is_set in ((count, False), (count - 1, True)):
+            own = [*call[:-2], "large" if is_set else "app", self.checkout]  # a set stays one
             with mock.patch.object(limits, "MOST_ELEMENTS", most):
-                status, said, _ = self.published("--dump", RAW, *call)
+                status, said, _ = self.published("--dump", RAW, *own)
             self.assertEqual((status, "a set" in said[0]), (0, is_set), most)
             self.assertIn(f"the index is of revision {commit}, which it keeps", said)
         self.assertEqual(self.published("--dump", RAW, *call)[0], 0)
@@ -230,7 +237,8 @@ class Publish(OnCheckout):
                 git_in(self.checkout, "reset", "-q", "--hard", commit)
                 script(os.path.join(self.bin, "ctags"), with_tags, f'exec {ctags} "$@"')
                 shutil.rmtree(kept, ignore_errors=True)
-                call = ["--keep", kept, *words, "app", self.checkout]
+                name = "set" if "--set" in words else "app"  # a set stays one
+                call = ["--keep", kept, *words, name, self.checkout]
                 status, printed, stages = self.published(*call)
                 self.assertEqual(status, 0, stages)
                 line = f"the index is of revision {revision}, which it keeps"
@@ -336,7 +344,8 @@ class Publish(OnCheckout):
                 self.assertEqual(out.getvalue(), f"{scale}:4:8\n")
 
     def test_the_profile(self) -> None:
-        """Without one it's 2 where the dump has a declaration or an implementation."""
+        """Without one it's 2 where the dump has a declaration or an implementation; the server
+        reads the project, or the part of a set, in it."""
         with open(RAW, "rb") as file:
             body = file.read()
         result = b'{"id":"i","type":"vertex","label":"implementationResult"}\n'
@@ -357,10 +366,16 @@ class Publish(OnCheckout):
             with self.subTest(words, more=more):
                 with open(dump, "wb") as out:
                     out.write(body + more)
-                status, said, _ = self.published(
-                    "--no-tags", *words, "--dump", dump, "app", self.checkout
-                )
-                self.assertEqual((status, said[0].rsplit(", ", 1)[1]), (0, f"profile {profile}"))
+                names_of: list[tuple[str, list[str]]] = [("app", []), ("set", ["--set"])]
+                for name, more_words in names_of:
+                    call = [*more_words, "--no-tags", *words, "--dump", dump, name]
+                    status, said, _ = self.published(*call, self.checkout)
+                    last = said[0].rsplit(", ", 1)[1]
+                    self.assertEqual((status, last), (0, f"profile {profile}"))
+                    names = [one for one in Store(self.url).projects() if one.startswith(name)]
+                    for own in [one for one in names if one != "set-parts"]:
+                        asked = request(address(self.url, f"/projects/{own}/profile", {}))
+                        self.assertEqual(found_in(asked, "profile"), int(profile), own)
 
     def test_tags_alone(self) -> None:
         """Lines that the server would refuse are left out, and reported."""
@@ -394,6 +409,34 @@ class Publish(OnCheckout):
             [["dump", *"no indexer is known for what is here (--index)".split()]],
         )
 
+    def test_nothing_in_place_of_an_index(self) -> None:
+        """Where nothing is indexed nothing is uploaded, and what was there stays."""
+        self.assertEqual(self.published("app", self.checkout)[0], 0)
+        tags = self.tags_named("fahrenheit")
+        self.assertEqual((len(tags), self.answer()), (1, DEFINITION))
+        empty = os.path.join(self.home, "empty")
+        os.mkdir(empty)
+        dump = os.path.join(self.home, "empty.lsif")
+        with open(RAW, "rb") as file, open(dump, "wb") as out:
+            out.write(file.readline())
+        for words, folder, said in (
+            (["--no-index"], empty, "there are no tags"),
+            (["--dump", dump], self.checkout, "the index has no documents: --no-index uploads"),
+            (["--dump", dump, "--set"], self.checkout, "the index has no documents: --no-index"),
+            (["--without", "*"], self.checkout, "the index has no documents: --no-index uploads"),
+        ):
+            with self.subTest(words):
+                status, printed, stages = self.published(*words, "app", folder)
+                last = stages.splitlines()[-1]
+                start = f"codenav publish: {os.path.realpath(folder)}: {said}"
+                self.assertEqual((status, printed, last[: len(start)]), (2, [], start))
+                self.assertEqual((self.tags_named("fahrenheit"), self.answer()), (tags, DEFINITION))
+
+    def tags_named(self, name: str) -> Any:
+        """The tags of a name that the project has."""
+        asked = address(self.url, "/names", {"name": name, "project": "app"})
+        return found_in(request(asked), "tags")
+
     def test_what_an_indexer_leaves(self) -> None:
         """Of a folder without git, what its indexer writes there has no tags."""
         folder = os.path.join(self.home, "plain")
@@ -401,8 +444,7 @@ class Publish(OnCheckout):
         shutil.rmtree(os.path.join(folder, "target"), ignore_errors=True)
         line = f"echo 'int left;' >left.c; cat {RAW}"
         self.assertEqual(self.published("--index", line, "app", folder)[0], 0)
-        asked = address(self.url, "/names", {"name": "left", "project": "app"})
-        self.assertEqual(found_in(request(asked), "tags"), [])
+        self.assertEqual(self.tags_named("left"), [])
 
     def test_a_dry_run(self) -> None:
         kept = os.path.join(self.home, "kept")
@@ -452,7 +494,7 @@ class Publish(OnCheckout):
             (["--index", "true"], 2, "the indexer wrote nothing: true"),
             (["--indexer", "none"], 2, "no indexer 'none' is known"),
             (["--program", "/no/codenav"], 2, "/no/codenav: no program"),
-            (["--no-index", "--no-tags"], 2, "no indexer is known for what is here"),
+            (["--no-index", "--no-tags"], 2, "crate: there are no tags$"),
         ):
             with self.subTest(words):
                 found, printed, stages = self.published(*words, "app", self.checkout)
@@ -475,7 +517,7 @@ class Publish(OnCheckout):
 
     def test_a_set(self) -> None:
         """A dump that is too large for one project, or any with --set, becomes a set in the
-        project's place, and back."""
+        project's place, and stays one up to its removal."""
         raw = os.path.join(self.home, "many")
         with open(RAW, "rb") as file:
             body = file.read()
@@ -484,7 +526,7 @@ class Publish(OnCheckout):
             for own in range(100_000):
                 out.write(b'{"id":"%d","type":"vertex","label":"resultSet"}\n' % own)
         expected = ["app file:///src/tr/crate/src/scale.rs 3"]
-        for words, said, is_set in (
+        rows: list[tuple[list[str], str, bool]] = [
             (["app"], "app: a dump of .* elements, profile 1", False),
             (["--set", "app"], "app: a set, parts 1, kept 0, new 1, removed 0, profile 1", True),
             (
@@ -493,8 +535,15 @@ class Publish(OnCheckout):
                 True,
             ),
             (["--set", "app"], "app: a set, parts 1, kept 0, new 1, removed 1, profile 1", True),
+            (["app"], "app: a set, parts 1, kept 1, new 0, removed 0, profile 1", True),
+            ([], "", True),
             (["app"], "app: a dump of .* elements, profile 1", False),
-        ):
+        ]
+        for words, said, is_set in rows:
+            if not words:
+                with redirect_stdout(io.StringIO()):
+                    self.assertEqual(REMOVE.main([self.url, "app"]), 0)
+                continue
             status, printed, stages = self.published(*words, self.checkout)
             self.assertEqual(status, 0, stages)
             self.assertRegex(printed[0], f"^uploaded {said}$")
@@ -502,6 +551,55 @@ class Publish(OnCheckout):
             self.assertEqual((words, found), (words, expected))
             names = {project["name"] for project in listed(self.url)}
             self.assertEqual(("app" in names, len(names)), (not is_set, 2 if is_set else 1))
+
+    def test_a_database(self) -> None:
+        """A project or a set is put into the file of a database, beside what it has, each in the
+        place of the other; what can't be done is a line, and leaves the file as it was."""
+        made = os.path.join(self.home, "made")
+        database = os.path.join(made, "index.db")
+        os.mkdir(made)
+        for words, said, projects in (
+            (["--set", "app"], "app: a set, parts 1, kept 0, new 1, removed 0, profile 1", 2),
+            (["app"], "app: a dump of .* elements, profile 1", 1),
+            (["--set", "app"], "app: a set, parts 1, kept 0, new 1, removed 0, profile 1", 2),
+            (["--no-index", "other"], "other: [0-9]+ tags", 3),
+        ):
+            status, printed, stages = self.published(
+                "--database", database, *words, self.checkout, url=""
+            )
+            self.assertEqual(status, 0, stages)
+            self.assertRegex(printed[0], f"^{database}: {said}$")
+            with Program(self.program).serve(database) as server:
+                self.assertEqual(len(listed(server.url)), projects)
+                at = {"uri": "file:///src/tr/crate/src/lib.rs", "line": 17, "character": 11}
+                found = asked_at(server.url, "app").query("definition", at, "places")
+                self.assertEqual([place["start"]["line"] for place in found], [3])
+                if self.program != STAND_IN:
+                    words = ["--database", database, "app", self.checkout]
+                    status, _, stages = self.published(*words, url="")
+                    self.assertEqual((status, "a server has it" in stages), (2, True), stages)
+            digests.keep(database)
+        self.assertEqual(digests.difference(database), None)
+        with open(database, "rb") as file:
+            before = file.read()
+        away = os.path.join(self.home, "away", "index.db")
+        for words, line in (
+            (["--database", database, self.url, "app", self.checkout], "takes neither a server"),
+            (["--dry-run", "--database", database, "app", self.checkout], "takes neither"),
+            (["--database", away, "app", self.checkout], f"{os.path.dirname(away)}: not a folder"),
+            (
+                ["--database", self.checkout + "/Cargo.toml", "app", self.checkout],
+                "Cargo.toml: codenav: ",
+            ),
+        ):
+            status, printed, stages = self.published(*words, url="")
+            self.assertEqual((status, printed), (2, []), stages)
+            self.assertIn(line, stages.splitlines()[-1])
+        with open(database, "rb") as file:
+            self.assertEqual(file.read(), before)
+        self.assertEqual(
+            set(os.listdir(made)) - {"index.db-wal"}, {"index.db", "index.db.digest", "lock"}
+        )
 
     def test_a_set_of_an_index(self) -> None:
         """A SCIP index becomes a set by itself, without a dump of it, by --set or where its dump
@@ -648,7 +746,10 @@ class Publish(OnCheckout):
                     call.communicate(timeout=SECONDS * 3)
                 found = lines_of(pids)
                 self.assertEqual((call.returncode, len(found)), (wanted, 2))
-                self.assertEqual([pid for pid in found if is_running(int(pid))], [])
+                until = time.monotonic() + SECONDS  # what is killed takes a time to end
+                while left := [pid for pid in found if is_running(int(pid))]:
+                    self.assertLess(time.monotonic(), until, left)
+                    time.sleep(0.05)
                 self.assertEqual(os.listdir(temporary), [])
 
 

@@ -177,8 +177,9 @@ class Page(unittest.TestCase):
         )
         for example in examples(PAGE):
             if not example.command.startswith(RUN):
-                word = example.command.split()[1].upper()
-                self.assertRegex(tests, rf"\b{word}\b", example.command)
+                word = example.command.split()[1]
+                calls = rf"\b{word.upper()}\.main\b|\bcalled\(\"{word}\""
+                self.assertTrue(re.search(calls, tests), example.command)
 
     def called(self, front: Front, folder: str, command: str) -> str:
         """What a command of the page prints in a folder."""

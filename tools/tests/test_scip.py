@@ -526,6 +526,16 @@ class Scip(unittest.TestCase):
         self.assertEqual(shapes.symbols[0].signature_documentation.text, "class Circle")
         self.assertTrue(shapes.symbols[0].relationships[0].is_implementation)
 
+    def test_fields_that_are_not_known(self) -> None:
+        """Those of later versions say nothing, of whatever kind they are, and wherever behind the metadata."""
+        parts = [metadata(), SHAPES, USER]
+        wanted = self.converted(b"".join(parts))
+        fields = [field(99, 5), varint(99 << 3 | 1) + bytes(8), field(99, "x")]
+        for own in [*fields, varint(99 << 3 | 5) + bytes(4)]:
+            for at in range(1, len(parts) + 1):
+                index = b"".join([*parts[:at], own, *parts[at:]])
+                self.assertEqual(self.converted(index), wanted, (own, at))
+
     def test_an_index_that_is_cut_off(self) -> None:
         ends = {
             len(part)

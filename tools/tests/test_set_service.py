@@ -7,7 +7,7 @@ import multiprocessing
 import os
 import re
 import tempfile
-from contextlib import redirect_stderr, redirect_stdout
+from contextlib import redirect_stderr, redirect_stdout, suppress
 from typing import Any, Callable
 
 from codenav.asking.index import Index
@@ -22,12 +22,13 @@ from codenav.faults import BadCall, NoReply
 from codenav.sets.files import MANIFEST
 from codenav.sets.manifest import NotAManifest, content_digest
 from codenav.sets.publish.base import Late, read_base, remove_set
-from codenav.sets.publish.publish import Publish
+from codenav.sets.publish.publish import NEVER_PUT, Publish
 from codenav.sets.publish.store import Store
 from codenav.texts.places import uri_of
-from tests.dump_walks import OF_PROFILE, Question, Walk, answered, questions
+from tests.dump_walks import OF_PROFILE, Question, Walk, answered, body_of, questions
 from tests.servers import TOP, OnServer
 from tests.split_files import split_file
+from tests.test_split import made
 from tests.test_lsp import Editor
 
 NAME = "code"
@@ -137,19 +138,21 @@ class StopsAtRemoval(Store):
         self.at, self.stop = at, stop
 
     def remove(self, project: str, key: str = "") -> None:
-        self.at -= 1
+        self.at -= not project.endswith(NEVER_PUT)  # which only notes something
         if self.at == 0:
+            self.at -= 1
             self.stop()
         super().remove(project, key)
 
 
 class Counts(Store):
-    """Counts its requests."""
+    """Counts its requests, and those for the list of all projects."""
 
-    count = 0
+    count = lists = 0
 
     def found(self, path: str, parameters: dict[str, Any], member: str) -> Any:
         self.count += 1
+        self.lists += path == "/projects"
         return super().found(path, parameters, member)
 
     def change(self, method: str, path: str, parameters: dict[str, Any], body: bytes) -> None:
@@ -263,6 +266,49 @@ class Published(OnFile):
             if store.at > 0:
                 break
         self.assertGreater(store.at, 0)
+
+    def test_nothing_changed(self) -> None:
+        """A publish of what is there costs a small request a part and six more, and no list of all
+        projects; one of a change costs one list. What a publish left that was killed, a project of
+        the name, or a part that is lacking is seen."""
+        both = Revisions(self.folder)
+
+        def published(number: int) -> tuple[str, int, int]:
+            store = Counts(self.url)
+            publish = Publish(store, both.folders[number], in_place_of_project=True)
+            line = publish.run().line()
+            self.assertEqual(both.answering(self.url), number)
+            self.assertEqual(len(self.projects()), 3)
+            return line, store.lists, store.count
+
+        def kill() -> None:
+            raise Stopped
+
+        same, dump = "parts 2, kept 2, new 0, removed 0", revision(0)
+        self.assertEqual(published(0)[1], 1)
+        for number in 1, 0:
+            self.assertEqual(published(number)[1], 1)
+            before = Store(self.url).mark(NAME)
+            self.assertEqual(published(number), (same, 0, 6))
+            self.assertEqual(Store(self.url).mark(NAME), before)
+        part = next(one for one in sorted(self.projects()) if one != f"{NAME}-parts")
+        changes: list[tuple[Callable[[], None], str]] = [
+            (lambda: Store(self.url).remove(part), "parts 2, kept 1, new 1, removed 0"),
+            (lambda: Store(self.url).put(NAME, "lsif", dump, "k"), same),
+        ]
+        for change, line in changes:
+            change()
+            self.assertEqual(published(0)[:2], (line, 1))
+            self.assertEqual(published(0)[:2], (same, 0))
+        for at in range(1, MOST_STEPS):
+            with suppress(Stopped):
+                Publish(Stops(self.url, at, True, kill), both.folders[1]).run()
+                break
+            number = both.answering(self.url)
+            published(number)
+            self.assertEqual(published(number)[:2], (same, 0))
+            published(0)
+        self.assertGreater(at, 5)
 
     def test_two_at_once(self) -> None:
         """A publish that stops before any change goes on when others have ended: it's never a
@@ -448,15 +494,54 @@ class Published(OnFile):
             self.publish(both.folders[1])
         self.assertEqual(both.answering(self.url), 0)
 
-    def test_alike(self) -> None:
-        """A document that no part has is refused, with those that end alike."""
-        both = Revisions(self.folder)
-        self.publish(both.folders[0])
-        parameters = {"uri": "file:///elsewhere/src/scale.rs", "line": 1, "character": 1}
-        with self.assertRaisesRegex(
-            NoReply, "D02 no such document in the set code; there are .*/src/scale.rs"
+    def test_what_misses(self) -> None:
+        """A question of a document that no part has costs what one costs that is answered, however
+        many documents the set has, and so does one of a name; an unknown name costs two requests.
+        The fault names a document whose address ends alike."""
+        uris = {f"file:///{folder}/f{number}": 1 for folder in "ab" for number in range(1500)}
+        split_into(os.path.join(self.folder, "many"), body_of(made(uris)), most=10_000)
+        self.publish(os.path.join(self.folder, "many"))
+        at = {"line": 0, "character": 1}
+        cost: list[int] = []
+
+        def fetch(path: str, parameters: dict[str, Any], member: str) -> Any:
+            answer = request(client.address(self.url, path, parameters))
+            cost.append(len(answer.body))
+            return found_in(answer, member)
+
+        asked = Index(NAME, fetch)
+        asked.query("definition", {"uri": "file:///a/f0", **at}, "places")
+        for name, uri, said, most in (
+            (NAME, "file:///a/f1", None, 2),
+            (
+                NAME,
+                "file:///else/where/f0",
+                "D02 no such document in the set code; there is .*/f0",
+                2,
+            ),
+            (
+                NAME,
+                "file:///b/new",
+                "D02 no such document in the set code; there is file:///./f",
+                2,
+            ),
+            ("unknown", "file:///a/f1", "D01 .*", 2),
         ):
-            asked_at(self.url, NAME).query("definition", parameters, "places")
+            cost.clear()
+            asked = asked if name == NAME else Index(name, fetch)
+            with self.subTest(uri):
+                if said is None:
+                    asked.query("definition", {"uri": uri, **at}, "places")
+                else:
+                    with self.assertRaisesRegex(NoReply, f"^{said}"):
+                        asked.query("definition", {"uri": uri, **at}, "places")
+                self.assertEqual(len(cost), most)
+                self.assertLess(sum(cost), 1_000)
+        for name, most in (NAME, 2), ("unknown", 2):
+            cost.clear()
+            asked = asked if name == NAME else Index(name, fetch)
+            self.assertEqual(asked.names({"name": "nothing"}, False), [])
+            self.assertLessEqual((len(cost), sum(cost)), (most, 1_000))
 
     def test_branch(self) -> None:
         """A branch beside its set: each is asked by its own name, and a third project that is

@@ -33,7 +33,7 @@ class Shown(Served, unittest.TestCase):
 
     def names(self, at: str) -> list[str]:
         """The entries of a folder, as the tree is given them."""
-        status, body, _ = self.got(f"/list?at={quote(at)}&start=0&end=99")
+        status, body, _ = self.got(f"/list?path={quote(at)}&start=0&end=99")
         return [entry["name"] for entry in json.loads(body)["entries"]] if status == 200 else []
 
     def test_folders_that_are_not_listed(self) -> None:
@@ -41,7 +41,7 @@ class Shown(Served, unittest.TestCase):
         for at in BAD:
             with self.subTest(at):
                 self.assertEqual(self.names(at), [])
-                self.assertEqual(self.got(f"/list?at={quote(at)}&start=0&end=99")[0], 403)
+                self.assertEqual(self.got(f"/list?path={quote(at)}&start=0&end=99")[0], 403)
 
     def test_names_that_begin_with_a_dot(self) -> None:
         for name in ".git/config", ".git", "src/.kept/x.rs", ".env":

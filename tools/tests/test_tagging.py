@@ -37,6 +37,15 @@ class Tagging(InRepository):
             with self.subTest(is_git=is_git):
                 self.assertEqual(self.lines(), [("two", name) for name in sorted(names)])
 
+    def test_line_feed(self) -> None:
+        """A file that no tag can name is left out, and said, and no other is tagged in its place."""
+        for name in ("a.c", "b\na.c"):
+            self.write(name, SOURCE)
+        self.commit()
+        path = os.path.join(self.home, "tags")
+        count, left_out = tagged(self.top, files_of(self.top), path)
+        self.assertEqual((count, dict(left_out)), (1, {"T03": 1}))
+
     def test_options_of_the_checkout(self) -> None:
         """None are read."""
         self.write(".ctags.d/own.ctags", "--exclude=*.c\n")

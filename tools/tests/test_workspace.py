@@ -166,6 +166,22 @@ class SettingsFile(unittest.TestCase):
         deep = os.path.join(self.folder, "deep", FILE)
         self.assertEqual([line.split(": ")[0] for line in said], [deep])
 
+    def test_another_beside(self) -> None:
+        """It asks by itself, since what's known of a project is of one question at a time, and has
+        the same texts; also where settings changed meanwhile."""
+        path = os.path.join(self.folder, "a.rs")
+        workspace = Workspace(self.folder, None, print, text_of)
+        other = workspace.beside()
+        for name in "one", "two":
+            self.write(f'server = "http://h:1"\nproject = "{name}"\n')
+            projects = []
+            for each in workspace, other:
+                settings = each.settings(path)
+                assert settings is not None
+                projects.append(each.project(settings, "app"))
+            self.assertIsNot(*projects)
+            self.assertIs(projects[0].today, projects[1].today)
+
 
 class OnCheckouts(OnServer, InRepository):
     """The demo crates are two checkouts, each of a project of its own, with a `.codenav.toml`."""

@@ -15,6 +15,17 @@ from codenav.faults import NoReply
 from codenav.names import stored_name
 from codenav.sets.ring import Ring
 
+LETTERS = "zqjxyvkwuhgnolbmdfirteapcs"
+BEGINNINGS = f"{LETTERS}_{LETTERS.upper()}"
+"""With what names begin, what is rarer first: little is answered then."""
+
+
+def has_other_tags(index: Index) -> bool:
+    """Whether a project has tags whose names begin with a letter or `_`: those that don't say
+    themselves that they're there can't be asked for otherwise but by listing all projects."""
+    own = {"project": index.name}
+    return any(index.sets.fetch("/names", {**own, "prefix": one}, "tags") for one in BEGINNINGS)
+
 
 @contextmanager
 def named(server: str) -> Iterator[None]:
@@ -48,7 +59,7 @@ def names_of_all(
             index = Index(project, fetch_from(home))
             with named(home):
                 tags = index.names(parameters, False)
-                if tags or has_dump(index) or has_tags(index):
+                if tags or has_dump(index) or has_tags(index) or has_other_tags(index):
                     own[home] = tags
         if home in own:
             kept += own[home]

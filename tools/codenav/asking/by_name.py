@@ -14,6 +14,7 @@ from typing import TYPE_CHECKING, Any, Optional
 from codenav.asking.index import Index
 from codenav.asking.tags import Names, Tag
 from codenav.faults import NO_DUMP, NoReply
+from codenav.records import OWN_TAG, revision_in
 from codenav.texts.decoded import lines_in
 from codenav.texts.places import Maps, Place, units, uri_of
 from codenav.texts.tagged import is_part
@@ -21,9 +22,6 @@ from codenav.texts.tagged import is_part
 if TYPE_CHECKING:
     from codenav.asking.project import Project
 
-LETTERS = "zqjxyvkwuhgnolbmdfirteapcs"
-BEGINNINGS = f"{LETTERS}_{LETTERS.upper()}"
-"""With what names begin, what is rarer first: little is answered then."""
 SECONDS = 60.0
 """For so long it stands that a project has no tags, but where a definition is found by them."""
 
@@ -39,11 +37,11 @@ def has_dump(index: Index) -> bool:
 
 
 def has_tags(index: Index) -> bool:
-    """Whether a project has tags whose names begin with a letter or `_`: the server can be asked
-    for no others but by listing all projects."""
+    """Whether a project has tags that say so: the server can be asked for others by their names
+    alone, or by listing all projects."""
+    own = {"name": OWN_TAG, "project": index.name}
     try:
-        own = {"project": index.name}
-        return any(index.sets.fetch("/names", {**own, "prefix": one}, "tags") for one in BEGINNINGS)
+        return revision_in(index.sets.fetch("/names", own, "tags")) is not None
     except NoReply:
         return False
 
@@ -94,7 +92,7 @@ class ByName:
         found = sorted((found_at(*one, today.maps) for one in places), key=far)
         if said := names.said():
             today.say(said)
-        self.is_tagged = self.is_tagged or bool(found)
+        self.is_tagged = self.is_tagged or bool(tags)
         return found
 
 

@@ -18,13 +18,11 @@ from codenav.client.fetch import Fetch
 from codenav.faults import NO_DOCUMENT, NO_DUMP, NoReply
 from codenav.names import BRANCH, shown_name
 from codenav.sets.known import Sets
-from codenav.sets.manifest import DOCUMENT, Head
 
 Found = dict[str, Any]
 Shown = tuple[Any, set[str]]
 MISSING = (NO_DUMP, NO_DOCUMENT)
 """The codes of faults of a project that has no dump, or of a dump that has no such document."""
-ALIKE = 3
 TRIES = 5
 
 
@@ -54,7 +52,6 @@ class Index:
     def __init__(self, name: str, fetch: Fetch) -> None:
         self.name = stored(name)
         self.sets = Sets(fetch)
-        self.is_none = False
 
     def query(self, what: str, parameters: dict[str, Any], member: str) -> Any:
         """What a query at a position found: the places, shown as those of sets and in order, or the
@@ -73,7 +70,6 @@ class Index:
                     raise
                 is_none = head is None and fault.code() == NO_DUMP
                 return fault, self.looked_for() if is_none else self.own()
-            self.is_none = False
             return self.shown(found) if member == "places" else (found, self.own())
 
         found = self.checked(once)
@@ -84,7 +80,6 @@ class Index:
     def checked(self, once: Callable[[], Shown]) -> Any:
         """What is found, asked again up to when the manifests by which it's shown were the same
         before and after it; raises NoReply."""
-        self.is_none = False
         self.sets.forget_none()
         for _ in range(TRIES):
             self.sets.read.clear()
@@ -100,13 +95,10 @@ class Index:
         return {self.name} if self.sets.heads.get(self.name) else set()
 
     def looked_for(self) -> set[str]:
-        """Where no project of the name answered, looks for a set, which is asked then. Where there
-        is none the project is asked once more, since it may have come for a set meanwhile."""
-        if self.is_none:
-            return set()
+        """Where no project of the name answered, looks for a set, which is asked then. It was there
+        before the project if both were, since none comes in a set's place."""
         self.sets.forget(self.name)
-        self.is_none = self.sets.head(self.name) is None
-        return {self.name}
+        return {self.name} if self.sets.head(self.name) else set()
 
     def explained(self, fault: NoReply, uri: str) -> NoReply:
         """A fault of a part, as one of its set: a part that the manifest names and that is gone was
@@ -117,31 +109,8 @@ class Index:
         if fault.code() == NO_DUMP:
             return NoReply(f"a part of the set {name} is gone; publish the set again")
         return NoReply(
-            f"{NO_DOCUMENT} no such document in the set {name}{self.alike(head, serialized(uri))}"
+            f"{NO_DOCUMENT} no such document in the set {name}; there is {head.like(serialized(uri))}"
         )
-
-    def documents(self, head: Head) -> list[str]:
-        """The addresses of all documents of a set."""
-        return [
-            tag["name"][len(DOCUMENT) :]
-            for project in head.holders()
-            for tag in self.sets.fetch("/names", {"prefix": DOCUMENT, "project": project}, "tags")
-        ]
-
-    def alike(self, head: Head, uri: str) -> str:
-        """The documents whose addresses end as one does that isn't there, as text: the more folders
-        they have in common the sooner."""
-        own = uri.split("/")
-        found = []
-        for known in self.documents(head):
-            other = known.split("/")
-            common = 0
-            while common < min(len(own), len(other)) and own[-1 - common] == other[-1 - common]:
-                common += 1
-            if common:
-                found.append((-common, known))
-        first = [known for _, known in sorted(found)[:ALIKE]]
-        return f"; there are {', '.join(first)}" if first else ""
 
     def shown(self, places: list[Found]) -> Shown:
         """Places as they are shown, in order and each once, and the sets whose manifests say so."""
@@ -165,7 +134,6 @@ class Index:
             if not self.sets.heads.get(self.name):
                 own = {**parameters, "project": self.name}
                 tags = self.sets.fetch("/names", own, "tags")
-                self.is_none = self.is_none and not tags
                 used = set() if tags else self.looked_for()
                 if not self.own():
                     return tags, used

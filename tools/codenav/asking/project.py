@@ -4,9 +4,10 @@ today."""
 import os
 from typing import Any, NamedTuple, Optional, cast
 
-from codenav.addresses import below
+from codenav.addresses import below, serialized
 from codenav.asking.by_name import ByName
 from codenav.asking.index import Index
+from codenav.asking.more import MONIKERS, MORE, OF_DOCUMENTS, found_more
 from codenav.asking.versions import Versions
 from codenav.client.fetch import Fetch
 from codenav.faults import NO_DOCUMENT, NO_DUMP, NoReply
@@ -17,6 +18,10 @@ TRIES = 4
 MEMBERS = {"hover": "contents"}
 """The member of a reply that has what was found; it's `places` of other queries."""
 OF_PROFILE_TWO = ("declaration", "implementation")
+NO_PLACES = ("hover", MONIKERS)
+"""What isn't answered by places."""
+HIGHLIGHT = "highlight"
+"""The references in the same document."""
 
 
 class Reply(NamedTuple):
@@ -73,21 +78,35 @@ class Project:
             fault = cast(Optional[Exception], None)
             self.learn(path)
             try:
-                place = self.today.to_index(self.name, at)
+                if what in OF_DOCUMENTS:
+                    place = self.today.document(self.name, path)
+                else:
+                    place = self.today.to_index(self.name, at)
                 asked = {"uri": place.uri, "line": place.line, "character": place.character}
-                found = self.index.query(what, {**asked, **more}, MEMBERS.get(what, "places"))
+                found = self.found(what, {**asked, **more})
             except NotThere as new:
                 fault = new
             except NoReply as refusal:
                 fault = self.told(refusal, place.uri, path)
-            if not self.is_as_before([] if what == "hover" else found or [], path):
+            is_places = what not in NO_PLACES
+            if not self.is_as_before(found or [] if is_places else [], path):
                 continue
             if fault is not None:
                 raise fault
             self.today.tell(place.fault)
             why = self.why_empty(what, place.uri) if found == [] else ""
-            return Reply(found if what == "hover" else self.today.from_index(found), place.of, why)
+            return Reply(self.today.from_index(found) if is_places else found, place.of, why)
         raise NoReply(f"{self.name} is published again and again")
+
+    def found(self, what: str, asked: dict[str, Any]) -> Any:
+        """What the index has of a question. Raises NoReply."""
+        if what in MORE:
+            return found_more(what, self.name, self.index.query, asked)
+        if what == HIGHLIGHT:
+            own = serialized(asked["uri"])
+            found = self.index.query("references", asked, "places")
+            return [one for one in found if one["uri"] == own]
+        return self.index.query(what, asked, MEMBERS.get(what, "places"))
 
     def learn(self, path: str, again: bool = False) -> None:
         """Learns of which revision the index is, unless that's known. Raises NoReply."""

@@ -130,12 +130,12 @@ class Names:
         return asked.today.map_from(project, path) if is_source else FileMap(path, None)
 
     def learn(self, asked: Project, project: str, path: str) -> None:
-        """Learns of which revision the index is that has a project's tags, by a request at most:
-        once, and for a file in a checkout."""
+        """Learns of which revision a project's tags are, by two requests at most: once, and for a
+        file in a checkout."""
         if project in self.learnt or is_known(asked, project, path) or not work_tree(path):
             return
         self.learnt.add(project)
-        version = asked.versions.told(project)
+        version = asked.versions.of_tags(project)
         asked.today.learn(project, version.revision, version.why)
         if version.why not in (NONE_KEPT, UNCOMMITTED):
             asked.today.tell(asked.today.reason(project))

@@ -1,11 +1,12 @@
 """Of which revision the indexes on a server are, as they say it themselves: a set by its manifest,
 and a project by the record that `publish` keeps with its dump."""
 
+from contextlib import suppress
 from typing import NamedTuple, Optional
 
 from codenav.asking.index import Index, stored
 from codenav.faults import NO_DOCUMENT, NO_DUMP, BadCall, NoReply
-from codenav.records import AT, record_in
+from codenav.records import AT, OWN_TAG, record_in, revision_in
 from codenav.sets.known import Away
 
 NONE_KEPT = "no revision is kept with its index"
@@ -69,6 +70,17 @@ class Versions:
         except BadCall as fault:
             return Version() if fault.code() == NO_DUMP else Version(why=str(fault))
 
+    def of_tags(self, name: str) -> Version:
+        """What the tags of an index say now, and where they say nothing the index itself."""
+        sets, own = self.index.sets, stored(name)
+        if sets.heads.get(own) is None:
+            asked = {"name": OWN_TAG, "project": own}
+            with suppress(BadCall, Away):
+                revision = revision_in(sets.brief("/names", asked, "tags"))
+                if revision is not None:
+                    return Version("", revision, "", UNCOMMITTED)
+        return self.told(name)
+
     def own(self) -> Version:
         """What the index says that is asked: by the manifest, as far as it was read, where it's a
         set, which costs no request, else by its record. Raises NoReply."""
@@ -77,10 +89,8 @@ class Versions:
             try:
                 return self.recorded(own)
             except NoReply as fault:
-                if fault.code() != NO_DUMP:
+                if fault.code() != NO_DUMP or not sets.is_changed(own):
                     raise
-                if not sets.is_changed(own):
-                    return self.recorded(own)  # a set may have become a project meanwhile
         return self.of_set(own) or Version()
 
     def of_set(self, name: str) -> Optional[Version]:

@@ -5,14 +5,14 @@ A checkout's own file is found upwards from each file, so that an editor over se
 each of its project, and needs no command line.
 """
 
+import copy
 import os
 import stat
-from typing import Callable, Iterator, Optional, Union
+from typing import Callable, Optional, Union
 
-from codenav.asking.project import Project, Reply
-from codenav.asking.tags import Names, Tag
-from codenav.client.fetch import fetch_from
-from codenav.faults import NO_DOCUMENT, NO_DUMP, BadCall, NoReply
+from codenav.asking.project import NO_PLACES, Project, Reply
+from codenav.client.fetch import Fetch, fetch_from
+from codenav.faults import NO_DOCUMENT, NO_DUMP, BadCall, NoDocument, NoReply
 from codenav.settings.found import FILE, Settings, folders_above, settings_in
 from codenav.texts.places import Place
 from codenav.texts.sources import Source
@@ -27,8 +27,10 @@ class Workspace:
     """The files of an editor, of which each is asked of its own project.
 
     `given` is what the command line says, for the files below the editor's folder, `root`, and for
-    those that nothing else is known of. `say` is called with a line for the user, `read` reads a
-    file as the editor has it. With `is_by_name` definitions are looked for by name.
+    those that nothing else is known of. `say` is called with a line for the user, `tell` with what
+    is wrong with settings, and `read` reads a file as the editor has it. With `is_by_name`
+    definitions are looked for by name; with `is_alone` no file's own settings count. `apart` makes
+    of what asks a server what questions ask it by.
     """
 
     def __init__(
@@ -38,14 +40,24 @@ class Workspace:
         say: Callable[[str], None],
         read: Callable[[str], str],
         is_by_name: bool = False,
+        is_alone: bool = False,
+        tell: Optional[Callable[[str], None]] = None,
+        apart: Callable[[Fetch], Fetch] = lambda fetch: fetch,
     ) -> None:
         self.root, self.given, self.say, self.read = root, given, say, read
-        self.is_by_name = is_by_name
+        self.is_by_name, self.is_alone = is_by_name, is_alone
+        self.tell, self.apart = tell or say, apart
         self.files: dict[str, tuple[Mark, Union[Settings, BadCall, None]]] = {}
         self.said: set[str] = set()
         self.asking: dict[tuple[str, str], Project] = {}
         self.mapping: dict[str, Today] = {}
         self.holders: dict[str, list[str]] = {}
+
+    def beside(self) -> "Workspace":
+        """Another one of the same files, which asks while this one waits for an answer."""
+        other = copy.copy(self)
+        other.asking = {}
+        return other
 
     def settings(self, path: str) -> Optional[Settings]:
         """What is known of a file: by the nearest `.codenav.toml` above it, unless it's the
@@ -55,12 +67,14 @@ class Workspace:
         for fault in map(str, faults if found else []):
             if fault not in self.said:
                 self.said.add(fault)
-                self.say(fault)
+                self.tell(fault)
         return found
 
     def found_above(self, path: str) -> tuple[Optional[Settings], list[BadCall]]:
         """What is known of a file, and what is wrong with the settings that are nearer."""
         faults: list[BadCall] = []
+        if self.is_alone:
+            return self.given, faults
         for folder in folders_above(os.path.dirname(path)):
             if self.given and folder in folders_above(self.root) and is_below(path, self.root):
                 break
@@ -91,21 +105,20 @@ class Workspace:
         """Forgets what was asked by the settings of a folder."""
         if folder in self.mapping:
             self.mapping.pop(folder).end()
-        for key in [key for key in self.asking if key[0] == folder]:
-            del self.asking[key]
         self.holders.clear()
 
     def project(self, settings: Settings, name: str) -> Project:
         """A project of the settings' server."""
         key = settings.folder, name
-        if key not in self.asking:
-            if settings.folder not in self.mapping:
-                self.mapping[settings.folder] = Today(
-                    settings.sources(), settings.maps, self.say, self.read, self.source
-                )
-            fetch, today = fetch_from(settings.server, SECONDS), self.mapping[settings.folder]
-            self.asking[key] = Project(name, fetch, today, settings.tags_folder(name))
-        return self.asking[key]
+        if settings.folder not in self.mapping:
+            self.mapping[settings.folder] = Today(
+                settings.sources(), settings.maps, self.say, self.read, self.source
+            )
+        today, known = self.mapping[settings.folder], self.asking.get(key)
+        if known is None or known.today is not today:
+            fetch = self.apart(fetch_from(settings.server, SECONDS))
+            known = self.asking[key] = Project(name, fetch, today, settings.tags_folder(name))
+        return known
 
     def source(self, project: str, path: str) -> Optional[Source]:
         """The texts that were indexed of a file of another project, where the file's own settings
@@ -151,13 +164,14 @@ class Workspace:
         try:
             return self.learnt(last, what, self.project(settings, last).answer(what, at, **more))
         except NoReply as fault:
-            raise NoReply(f"{last}: {fault}") from None
+            kind = NoDocument if fault.code() == NO_DOCUMENT else NoReply
+            raise kind(f"{last}: {fault}") from None
 
     def learnt(self, asked: str, what: str, reply: Reply) -> Reply:
         """A reply, of whose places it's noted which projects have the files: the one that was asked
         before others."""
         found: dict[str, set[str]] = {}
-        for place in reply.found if what != "hover" else []:
+        for place in reply.found if what not in NO_PLACES else []:
             if place["path"]:
                 found.setdefault(place["path"], set()).add(place["project"])
         for path, projects in found.items():
@@ -175,15 +189,6 @@ class Workspace:
             *(self.settings(path) for path in paths),
         ]
         return list({one.folder: one for one in found if one is not None}.values())
-
-    def names(self, prefix: str, paths: list[str], names: Names) -> Iterator[tuple[Tag, Place]]:
-        """The tags whose names begin with a text, of the projects of the editor's folder and of
-        files, with their places. Raises NoReply."""
-        for settings in self.all_settings(paths):
-            for project in settings.projects():
-                asked = self.project(settings, project)
-                tags = asked.index.names({"prefix": prefix}, False)
-                yield from names.places(asked, tags, settings.tags_folder)
 
 
 def mark_of(path: str) -> Mark:

@@ -4,6 +4,8 @@ import io
 import os
 import signal
 import sys
+import threading
+import time
 from typing import Any, Callable, NoReturn
 
 from codenav.faults import Fault
@@ -49,7 +51,48 @@ class Signalled(BaseException):
 def raise_signal(number: int, _: object) -> NoReturn:
     """Ends the call by a signal; another one then ends it at once."""
     signal.signal(number, signal.SIG_DFL)
-    raise Signalled(number)
+    raise KeyboardInterrupt() if number == signal.SIGINT else Signalled(number)
+
+
+SIGNALS = {signal.SIGINT: "Ctrl-C", signal.SIGTERM: "SIGTERM", signal.SIGHUP: "SIGHUP"}
+PAUSE = 0.1
+
+
+def end_by_signals() -> None:
+    """Has each of these signals that isn't ignored end the call. One may come where the interpreter
+    doesn't see it, as when it begins to wait, or where it drops what's raised, as in a finaliser:
+    then it's sent again, where the system has what that needs."""
+    for number in SIGNALS:
+        if signal.getsignal(number) != signal.SIG_IGN:
+            signal.signal(number, raise_signal)
+    try:
+        read, write = os.pipe()
+    except OSError:
+        return
+    os.set_blocking(write, False)
+    main = threading.get_ident()
+
+    def send_again() -> None:
+        while True:
+            number = os.read(read, 1)[0]
+            time.sleep(PAUSE)
+            while signal.getsignal(number) is raise_signal:
+                signal.pthread_kill(main, number)
+                time.sleep(PAUSE)
+
+    def was_dropped(fault: "sys.UnraisableHookArgs") -> None:
+        end = fault.exc_value
+        if not isinstance(end, (KeyboardInterrupt, Signalled)):
+            sys.__unraisablehook__(fault)
+            return
+        number = end.number if isinstance(end, Signalled) else signal.SIGINT
+        signal.signal(number, raise_signal)
+        os.write(write, bytes([number]))
+
+    sys.unraisablehook = was_dropped
+    signal.set_wakeup_fd(write, warn_on_full_buffer=False)
+    os.register_at_fork(after_in_child=lambda: signal.set_wakeup_fd(-1))
+    threading.Thread(target=send_again, daemon=True).start()
 
 
 def drop_output() -> None:
@@ -71,9 +114,9 @@ def text_of(fault: OSError) -> str:
 
 def status_of(tool: str, call: Callable[[], int]) -> int:
     """Makes the call of a tool and answers its status. What can't be carried out is one line on the
-    standard error and status 2, or that of the fault. Ctrl-C and SIGTERM are one line too, with 130
-    and 143. Where nobody reads the standard output any more the call ends without a word, with the
-    status of a program that SIGPIPE ended."""
+    standard error and status 2, or that of the fault. Ctrl-C, SIGTERM and SIGHUP are one line too,
+    with 130, 143 and 129. Where nobody reads the standard output any more the call ends without a
+    word, with the status of a program that SIGPIPE ended."""
     try:
         status = call()
         with of_file(STANDARD_OUTPUT):
@@ -84,10 +127,7 @@ def status_of(tool: str, call: Callable[[], int]) -> int:
         return CLOSED_PIPE
     except (KeyboardInterrupt, Signalled) as end:
         number = end.number if isinstance(end, Signalled) else signal.SIGINT
-        status, text = (
-            128 + number,
-            "ended by Ctrl-C" if number == signal.SIGINT else "ended by SIGTERM",
-        )
+        status, text = 128 + number, f"ended by {SIGNALS[signal.Signals(number)]}"
     except Fault as fault:
         status, text = fault.status, str(fault)
     except OSError as fault:

@@ -3,12 +3,11 @@ the tools, each of which is a module that's loaded when it's called."""
 
 import importlib
 import os
-import signal
 import sys
 from typing import TYPE_CHECKING, Any, NamedTuple, NoReturn, Optional, cast
 
 from codenav import VERSION
-from codenav.cli.ends import open_standard, raise_signal, status_of
+from codenav.cli.ends import end_by_signals, open_standard, status_of
 
 if TYPE_CHECKING:
     from codenav.cli.command import Command
@@ -102,6 +101,7 @@ def main(words: Optional[list[str]] = None) -> int:
 
 def ended() -> int:
     """The status of the command line's call, that of one that makes none too."""
+    end_by_signals()
     try:
         return main()
     except SystemExit as end:
@@ -112,7 +112,6 @@ def run() -> NoReturn:
     """Calls the word of the command line, and ends the process: at once, and not after Python has
     freed all its modules, which takes longer than a question."""
     open_standard()
-    signal.signal(signal.SIGTERM, raise_signal)
     status = status_of("codenav", ended)
     sys.stderr.flush()
     os._exit(status)

@@ -1,9 +1,7 @@
 """`codenav publish`."""
 
 import argparse
-import json
 import os
-import shlex
 import sys
 import tempfile
 from contextlib import contextmanager
@@ -12,21 +10,29 @@ from typing import Any, Iterator, Optional, Sequence
 
 from codenav.cli.command import Command
 from codenav.cli.options import URL_HELP, add_words, named_all, url_in
+from codenav.cli.published import as_json, counted, documents, not_uploaded, table, uploaded
 from codenav.cli.show import Shown
+from codenav.faults import BadCall
 from codenav.files import whole_file
 from codenav.index.indexers import INDEXERS
-from codenav.names import set_name, shown_name
+from codenav.names import shown_name
 from codenav.printed import line as printed
-from codenav.publishing.made import How, Made, Refused, Row
+from codenav.program import Program
+from codenav.publishing.database import publish_into
+from codenav.publishing.made import How, Made, Refused
 from codenav.publishing.making import Making
 from codenav.publishing.send import Sent, send
 from codenav.publishing.target import Target, target_at
+from codenav.service import digests
+from codenav.service.folder import locked
+from codenav.service.locks import holder_of
 from codenav.sets.ring import servers_of
 from codenav.settings.checkout import new_settings, plain, target_of
 from codenav.settings.found import FILE, found_in_file
-from codenav.texts.places import map_words
 
 TOOL = "codenav publish"
+NOWHERE = "http://localhost"
+"""What stands for the server where none is asked."""
 FORM = "[[URL] PROJECT] [FOLDER]"
 KNOWN = "\n".join(
     f"  {one.name:20} {one.line}"
@@ -37,13 +43,18 @@ VALUES = {
     "--program PATH": "the program, which checks before the upload; without it CODENAV_PROGRAM, that of this clone or package, or the one on the path",
     "--servers URL,URL..": "all servers of a front that spreads projects, spelled as in its configuration: the set goes to the one that the front picks, and its "
     f"surface to the others; without it `servers` of FOLDER's {FILE}. URL is the front then, or one of them",
+    "--apart NAME,NAME..": "packages that all use, as std,core,alloc: a surface has nothing of what is imported of them, so that references to their own items are "
+    "those of one server; their definitions are found from all",
     "--revision REV": "the git revision that is indexed; without it the one that FOLDER has checked out, where no file that git has is changed",
+    "--database FILE": "put all into the file of a database that no server has, beside what it has, in place of uploading it: `codenav restore` puts it into a "
+    "service. It has its digest beside it",
     "--keep FOLDER": "keep the files that are made, in FOLDER, which with several servers is one for each set: `codenav rebalance` puts them",
 }
 FLAGS = {
     "--no-tags": "upload the dump alone",
     "--set": "make a set of parts, as is done by itself of a dump that is too large for one project",
     "--servers-that-join": "the surface goes to those of the servers alone that have a set which imports or exports something of one of its packages",
+    "--more": "keep the type definitions, monikers, folding ranges and links of an LSIF dump too, for `lsp`, where it has room for them",
     "--dry-run": "make and check all, and upload nothing",
     "--write-settings": f"write FOLDER's {FILE} with what is published, unless it has other settings",
     "--overwrite": "with --write-settings, other settings too",
@@ -58,6 +69,7 @@ class PublishCall(How):
     servers: str = ""
     servers_that_join: bool = False
     keep: Optional[str] = None
+    database: Optional[str] = None
     write_settings: bool = False
     overwrite: bool = False
     json: bool = False
@@ -131,73 +143,14 @@ def settings_of(url: str, target: Target, made: Made, overwrites: bool) -> str:
     return new_settings(os.path.join(made.folder, FILE), wanted, overwrites)
 
 
-def uploaded(made: Made, sent: Sent, target: Target) -> Iterator[str]:
-    """What was uploaded, where its documents are, and how it's removed again."""
-    for one in sent.accepted:
-        of = f"{one.count} tags"
-        if one.part == "lsif":
-            of = f"a dump of {one.count} elements, profile {one.profile}"
-        yield f"uploaded {one.project}: {of}"
-    if sent.removed:
-        yield f"uploaded {target.project}: and removed its set of {sent.removed} parts"
-    if sent.report is not None:
-        where = f" at {target.home}" if target.servers else ""
-        said = f"a set{where}, {sent.report.line()}, profile {made.profile}"
-        yield f"uploaded {shown_name(set_name(target.project))}: {said}"
-    yield from documents(made)
-    yield f"codenav remove {plain(target.home)} {shown_name(target.project)} removes it again"
-
-
-def not_uploaded(made: Made, target: Target) -> Iterator[str]:
-    """What a call that uploads nothing would upload."""
-    what = [
-        "tags" if one.part == "tags" else f"a dump, profile {one.profile}" for one in made.bodies
-    ]
-    if made.files is not None:
-        what = [f"{len(made.files.head.parts)} parts, in profile {made.profile}"]
-    name, where = shown_name(target.project), plain(target.home)
-    yield f"nothing was uploaded, as --dry-run asks: {name} at {where} would have {' and '.join(what)}"
-
-
-def documents(made: Made) -> Iterator[str]:
-    """Where the documents of an index are, and of which commit it is."""
-    if made.bodies[0].part == "lsif":
-        folder = os.path.normpath(os.path.join("FOLDER", made.inside))
-        words = shlex.quote(map_words(made.where, folder))
-        yield f"documents are below {made.where}: elsewhere ask with --map {words}"
-        if made.commit:
-            yield f"the index is of revision {made.commit}, which it keeps"
-
-
-def table(rows: Sequence[Row]) -> list[str]:
-    """What was left out, and why, as the lines of a table; none where nothing was."""
-    cells = [(row.what, "" if row.number is None else str(row.number), row.why) for row in rows]
-    if not cells:
-        return []
-    cells.insert(0, ("left out", "count", "why"))
-    first, second = (max(len(row[column]) for row in cells) for column in (0, 1))
-    return [f"{what:{first}}  {count:>{second}}  {why}" for what, count, why in cells]
-
-
-def as_json(made: Made, sent: Optional[Sent], target: Target) -> str:
-    """What was done, for programs; `uploaded` is null where nothing was to be."""
-    found: dict[str, Any] = {"project": target.project, "uploaded": None, "set": None}
-    found["profile"] = made.profile or None
-    if sent is not None:
-        found["uploaded"] = [vars(one) for one in sent.accepted]
-        found["set"] = sent.report and vars(sent.report)
-    found["documents"], found["revision"] = made.where, made.commit or None
-    found["left_out"] = [
-        {"what": row.what, "count": row.number, "why": row.why} for row in made.left_out
-    ]
-    return json.dumps(found, separators=(",", ":"))
-
-
 def say(call: PublishCall, made: Made, sent: Sent, target: Target, settings: str) -> None:
     """Says what was uploaded, and writes the settings into the checkout where there are some."""
     for other in sent.lacking:
         name = shown_name(target.project)
         text = f"publish {shown_name(other)} again: it's joined to {name}, and its surface isn't at {target.home}"
+        print(f"{TOOL}: {text}", file=sys.stderr)
+    for away in sent.away:
+        text = f"{away} doesn't answer: publish {shown_name(target.project)} again when it does; up to then it lacks its surface"
         print(f"{TOOL}: {text}", file=sys.stderr)
     for line in () if call.json else uploaded(made, sent, target):
         print(printed(line))
@@ -213,9 +166,45 @@ def say(call: PublishCall, made: Made, sent: Sent, target: Target, settings: str
         print(printed(text), file=sys.stderr)
 
 
+def publish_to_file(call: PublishCall, database: str) -> int:
+    """Goes from the checkout to the file of a database."""
+    url, words = url_in([*call.words])
+    _, project, folder = target_of("none", words)
+    if url or call.dry_run or call.write_settings or servers_in(call.servers, folder):
+        raise BadCall(
+            "--database takes neither a server nor several, --dry-run or --write-settings"
+        )
+    program, call.dry_run = Program.needed(call.program), True
+    target, place = target_at(NOWHERE, project, (), False, call.set), os.path.dirname(database)
+    if not os.path.isdir(place):
+        raise BadCall(f"{place}: not a folder")
+    with Shown(TOOL, True) as shows, work_folder(call.keep) as work:
+        try:
+            made = Making(folder, target, call, shows).make(work)
+            shows.begin(f"put into {database}")
+            with locked(place):
+                if holder_of(database) is not None:
+                    raise BadCall(f"{database}: a server has it")
+                sent = publish_into(program, database, made)
+                digests.keep(database)
+            shows.end(f"{os.path.getsize(database)} bytes")
+        except Refused as fault:
+            for line in str(fault).splitlines():
+                shows.warn(line)
+            return 1
+    lines = [f"{database}: {line}" for line in counted(made, sent, target)]
+    for line in [as_json(made, sent, target)] if call.json else [*lines, *documents(made)]:
+        print(printed(line))
+    for line in () if call.json else table(made.left_out):
+        print(printed(line))
+    return 0
+
+
 def run_publish(call: PublishCall) -> int:
     """Goes from the checkout to the server; answers 1 where that refuses what was made, or
     would."""
+    if call.database is not None:
+        return publish_to_file(call, os.path.abspath(call.database))
     url, project, folder = target_of(*url_in([*call.words]))
     servers = servers_in(call.servers, folder)
     target = target_at(url, project, servers, call.servers_that_join, call.set)
@@ -239,7 +228,7 @@ def run_publish(call: PublishCall) -> int:
         print(printed(line))
     for line in [as_json(made, sent, target)] if call.json else table(made.left_out):
         print(printed(line))
-    return 0
+    return 2 if sent is not None and sent.away else 0
 
 
 PUBLISH = Command(

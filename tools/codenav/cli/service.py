@@ -11,6 +11,7 @@ from codenav.names import server_of
 from codenav.program import REQUESTS, Program
 from codenav.service.copies import backup, restore
 from codenav.service.folder import DATABASE
+from codenav.service.offered import offer
 from codenav.service.supervise import Supervisor
 from codenav.service.turn import turned
 from codenav.service.turning import How
@@ -110,17 +111,30 @@ class RestoreCall:
 
     copy: str = ""
     folder: str = ""
+    turn: bool = False
+    seconds: float = 3600
 
 
 def add_restore(parser: argparse.ArgumentParser) -> None:
     """The words of `restore`."""
-    said = "a folder that backup made, or that of the copies, for the newest"
+    text = (
+        "by a turn of a service that runs with a front: nobody waits for longer than for the switch"
+    )
+    parser.add_argument("--turn", action="store_true", help=text)
+    parser.add_argument(
+        "--seconds", type=float, metavar="N", help="with --turn, how long to wait for it; 3600"
+    )
+    said = "a folder that backup or publish --database made, or that of the copies, for the newest"
     parser.add_argument("copy", metavar="COPY", help=said)
     parser.add_argument("folder", metavar="FOLDER", help=FOLDER)
 
 
 def put_back(call: RestoreCall) -> int:
     """Puts a copy in place, and says so."""
+    if call.turn:
+        is_taken, said = offer(call.copy, call.folder, call.seconds)
+        print(said)
+        return 0 if is_taken else 1
     copy = restore(call.copy, call.folder)
     print(f"{call.folder} has the copy {copy}")
     return 0
@@ -159,21 +173,23 @@ BACKUP = Command(
 files are copied; the copy is tried by a start of the program over it.
 
 A copy is a folder of TARGET, named by its time in UTC, that is there whole or not at all. Beside
-its files is their digest, which `restore` compares.""",
+its files is their digest, which `restore` compares. A server that's being started again is waited
+for, for 30 seconds at most, and a turn or another backup for 15 minutes.""",
     BackupCall,
     add_backup,
     back_up,
-    epilog="status: 0 where there is a new copy; where there is none, the old ones stay",
+    epilog="status: 0 where there is a new copy, and not too many; where there is none, the old ones stay",
 )
 RESTORE = Command(
     "restore",
     """Puts a copy that `backup` made in the place of a service's database, which stays as it was
 until all of the copy is there.
 
-The service must not run. The database that was in use stays beside, in FOLDER/before, until the
-next call.""",
+The service must not run, or with --turn it takes a turn to the copy. The database that was in use
+stays beside, in FOLDER/before, until the next call; what was uploaded since the copy was made is
+there alone.""",
     RestoreCall,
     add_restore,
     put_back,
-    epilog="status: 0 where the copy is in place; where it isn't, nothing was changed",
+    epilog="status: 0 where the copy is in place; where it isn't, nothing was changed, and it's 1 where no turn was taken",
 )

@@ -44,6 +44,8 @@ def new_settings(path: str, wanted: dict[str, Any], overwrites: bool) -> str:
     found = found_in_file(path) if os.path.isfile(path) else {}
     if all(found.get(key) == value for key, value in wanted.items()):
         return ""
+    if os.path.islink(path):
+        raise BadCall(f"{path} is a link, which isn't followed to be written")
     if found and not overwrites:
         raise BadCall(f"{path} has other settings, which --overwrite replaces")
     lines = []

@@ -24,6 +24,7 @@ KEYS = {
     "revisions": dict,
     "indexed": str,
     "servers": list,
+    "projects": dict,
 }
 CALLED = {dict: "table", list: "list", str: "text"}
 """How the kinds of values are called."""

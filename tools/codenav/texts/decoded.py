@@ -43,6 +43,17 @@ def decoded(body: bytes) -> str:
     return "\n".join(line.decode("utf-8" if is_utf_8(line) else "latin-1") for line in lines)
 
 
+def may_be_text(head: bytes) -> bool:
+    """Whether bytes that begin so may be a text."""
+    if b"\0" not in head or head[:2] in MARKS:
+        return True
+    try:
+        codecs.getincrementaldecoder("utf-8")().decode(head)
+    except UnicodeDecodeError:
+        return False
+    return True
+
+
 def is_read_as(body: bytes, text: str) -> bool:
     """Whether a text is one that an editor may have read of bytes, but for its line ends."""
 

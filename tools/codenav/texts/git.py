@@ -1,5 +1,5 @@
-"""What git says of a work tree. It reads and writes nothing elsewhere, takes no lock, and fetches
-nothing of a partial clone."""
+"""What git says of a work tree. It reads and writes nothing elsewhere, takes no lock, runs no hook and
+no monitor of files, and fetches nothing of a partial clone."""
 
 import os
 import shutil
@@ -10,9 +10,12 @@ from typing import Iterator, Mapping, Optional
 
 from codenav.faults import BadCall
 
+OTHERS = "GIT_ALTERNATE_OBJECT_DIRECTORIES"
 SECONDS = 10.0
 """For so long git is waited for."""
 NO_ANSWER = "{}: git gives no answer"
+PLAIN = {"core.fsmonitor": "false", "core.hooksPath": os.devnull, "diff.orderFile": os.devnull}
+CALL = ("git", *(word for key, value in PLAIN.items() for word in ("-c", f"{key}={value}")))
 ENVIRONMENT = {"GIT_OPTIONAL_LOCKS": "0", "GIT_NO_LAZY_FETCH": "1", "LC_ALL": "C"}
 
 
@@ -27,7 +30,7 @@ def git(
     Raises BadCall where it doesn't end in time."""
     try:
         done = subprocess.run(
-            ["git", "-C", folder, *words],
+            [*CALL, "-C", folder, *words],
             input=body,
             capture_output=True,
             check=False,
@@ -75,6 +78,8 @@ def commit_of(top: str, revision: str) -> str:
 
     What the repository around a submodule doesn't know may be a revision of the submodule's own.
     """
+    if "\0" in revision:
+        raise BadCall(f"no revision {revision!r}")
     above = line_of(git(top, "rev-parse", "--show-superproject-working-tree"))
     own = found_in(top, f"{revision}^{{commit}}")
     if not above and own:
@@ -98,13 +103,17 @@ def commit_of(top: str, revision: str) -> str:
 @contextmanager
 def copied_index(top: str) -> Iterator[dict[str, str]]:
     """The variables by which git has a copy of a work tree's index, of the same time, for its own;
-    nothing is in it where the work tree has none."""
+    nothing is in it where the work tree has none. What git adds to it is kept beside it."""
     index = line_of(git(top, "rev-parse", "--git-path", "index"))
+    objects = os.path.join(top, line_of(git(top, "rev-parse", "--git-path", "objects")))
+    others = os.environ.get(OTHERS, "")
     with tempfile.TemporaryDirectory() as folder:
         copy = os.path.join(folder, "index")
         with suppress(FileNotFoundError):
             shutil.copy2(os.path.join(top, index), copy)
-        yield {"GIT_INDEX_FILE": copy}
+        quoted = '"' + os.path.realpath(objects).replace("\\", "\\\\").replace('"', '\\"') + '"'
+        known = os.pathsep.join(filter(None, [quoted, others]))
+        yield {"GIT_INDEX_FILE": copy, "GIT_OBJECT_DIRECTORY": folder, OTHERS: known}
 
 
 def no_revision(top: str, revision: str) -> str:

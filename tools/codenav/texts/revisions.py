@@ -13,14 +13,17 @@ from contextlib import suppress
 from typing import Callable, Optional, TypeVar
 
 from codenav.faults import BadCall
+from codenav.records import COMMIT
 from codenav.texts.decoded import decoded
 from codenav.texts.git import (
+    CALL,
     ENVIRONMENT,
     NO_ANSWER,
     SECONDS,
     checked_top,
     commit_of,
     copied_index,
+    found_in,
     git,
     no_revision,
 )
@@ -91,7 +94,7 @@ class Batch:
         """A process of git. Raises BadCall."""
         try:
             return subprocess.Popen(
-                ["git", "-C", self.top, "cat-file", *self.words],
+                [*CALL, "-C", self.top, "cat-file", *self.words],
                 stdin=subprocess.PIPE,
                 stdout=subprocess.PIPE,
                 stderr=subprocess.DEVNULL,
@@ -119,13 +122,23 @@ class Revision:
 
     def __init__(self, top: str, revision: str) -> None:
         self.top, self.name = os.path.realpath(top), revision
-        self.commit = commit_of(top, revision)
+        self.commit, self.led = commit_of(top, revision), found_in(top, f"{revision}^{{commit}}")
         self.names = Batch(self.top, "--batch-check")
         self.blobs = Batch(self.top, "--batch", "--filters")
         self.old_names: dict[str, str] = {}
         self.new_names: dict[str, str] = {}
         self.listed = -FRESH
         self.read: dict[str, tuple[float, str]] = {}
+
+    def follow(self) -> None:
+        """Looks up again which commit it is, unless the commit itself is named. Raises BadCall."""
+        if COMMIT.fullmatch(self.name):
+            return
+        words = self.names.asked(f"{self.name}^{{commit}}").split(b" ")
+        led = words[0].decode() if words[1:2] == [b"commit"] else ""
+        if led != self.led:
+            self.commit, self.led = commit_of(self.top, self.name), led
+            self.old_names, self.new_names, self.listed = {}, {}, -FRESH
 
     def end(self) -> None:
         """Ends the processes."""
@@ -237,13 +250,13 @@ class Checkout:
     def of(self, path: str) -> Revision:
         """The revision of the work tree that a file is in. Raises BadCall where it's in none, or
         that has no such revision."""
-        if "\0" in self.label:
-            raise BadCall(f"no revision {self.label!r}")
         folder = work_tree(path) or os.path.dirname(os.path.realpath(path))
         while not os.path.isdir(folder):
             folder = os.path.dirname(folder)
         top = self.once(self.tops, folder, checked_top)
-        return self.once(self.revisions, top, lambda own: Revision(own, self.label))
+        revision = self.once(self.revisions, top, lambda own: Revision(own, self.label))
+        revision.follow()
+        return revision
 
     def once(self, known: dict[str, Found], key: str, find: Callable[[str], Found]) -> Found:
         """What is known of a folder, or is found of it now. Raises BadCall, for some seconds without

@@ -200,6 +200,15 @@ class Today:
         is_same = text_map is None or text_map.is_same
         return IndexPlace(uri_of(old, self.maps), *place, "" if is_same else label, fault)
 
+    def document(self, project: str, path: str) -> IndexPlace:
+        """What the index knows the whole of a file of today by, or a document by its address. Raises
+        BadCall where there is no such file."""
+        if not os.path.isabs(path):
+            return IndexPlace(spelled(path), 0, 0, "")
+        old, (_, text_map, fault, label) = self.map_of(project, path)
+        is_same = text_map is None or text_map.is_same
+        return IndexPlace(uri_of(old, self.maps), 0, 0, "" if is_same else label, fault)
+
     def from_index(self, found: list[dict[str, Any]]) -> list[dict[str, Any]]:
         """The places of an answer as they are today, each with the member `path`, which is None of
         a document that is no file.

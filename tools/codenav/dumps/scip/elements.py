@@ -14,7 +14,7 @@ class Writer(LineWriter):
 
     def line(self, rest: str) -> int:
         """Writes an element by the text behind its id, which it answers."""
-        self.put(f'{{"id":{self.elements + 1},{rest}'.encode())
+        self.put(f'{{"id":{self.elements + 1},{rest}'.encode(errors="replace"))
         return self.elements
 
     def vertex(self, label: str, **members: Any) -> int:
