@@ -2,7 +2,6 @@
 revision, and what is said where there is none."""
 
 import os
-import time
 from typing import Any, Optional
 from unittest import mock
 
@@ -146,15 +145,15 @@ class Revisions(InRepository):
         self.write("a", "x\n")
         self.commit()
         revision = self.revision()
-        path = self.write("git", "#!/bin/sh\nexec sleep 60\n", self.home)
+        started = os.path.join(self.home, "started")
+        path = self.write("git", f"#!/bin/sh\necho >>{started}\nexec sleep 60\n", self.home)
         os.chmod(path, 0o755)
-        self.enterContext(mock.patch.object(revisions, "SECONDS", 0.5))
+        self.enterContext(mock.patch.object(revisions, "SECONDS", 2.0))
         with mock.patch.dict(os.environ, {"PATH": f"{self.home}:{os.environ['PATH']}"}):
-            started = time.monotonic()
             for _ in range(50):
                 with self.assertRaisesRegex(BadCall, f"^{self.top}: git gives no answer$"):
                     revision.text("a")
-            self.assertLess(time.monotonic() - started, 5)
+            self.assertEqual(os.path.getsize(started), 1)
             with self.assertRaisesRegex(BadCall, f"^{self.top}: git gives no answer$"):
                 top_of(self.top)
 
