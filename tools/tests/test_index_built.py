@@ -72,6 +72,17 @@ class Built(OnFolder):
         }
         self.check(".c", first, files, {"CPATH": "/none", "CLANGD_FLAGS": "--pretty"})
 
+    def test_minded(self) -> None:
+        """That there's no database is said where there's none in the folder and above."""
+        text, first = "to mind: no compile_commands.json", self.stood_in()[1]
+        self.assertIn(text, first)
+        for name in ("compile_commands.json", "../build/compile_commands.json"):
+            with self.subTest(name=name):
+                path = self.write(name, "[]")
+                status, said = self.stood_in()
+                self.assertEqual((status, text in said), (0, False), said)
+                os.unlink(path)
+
     def test_go(self) -> None:
         files = ("go.sum", "sub/go.mod", "../go.work", "vendor/modules.txt")
         is_there = shutil.which("go")
