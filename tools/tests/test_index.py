@@ -524,6 +524,15 @@ int first(struct box *box) {
         wanted = {"LIMIT", "kind", "kind.SMALL", "box", "box.kind", "both"}
         self.assertEqual(names, {f"api.h:{name}" for name in wanted})
 
+    def test_errors(self) -> None:
+        """What is said of a file that has errors isn't what else is open."""
+        with open(os.path.join(self.folder, "lone.c"), "w", encoding="utf-8") as file:
+            file.write("int lone(void) { return 1 }\n")
+        status, said = self.index()
+        self.assertEqual(status, 1, said)
+        self.assertIn("lone.c: Expected ';' after return statement", said)
+        self.assertNotIn("available", said)
+
 
 @unittest.skipUnless(shutil.which("ccls"), "ccls isn't installed")
 class Ccls(OnFolder):
