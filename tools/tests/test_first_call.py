@@ -110,7 +110,7 @@ class FirstCall(unittest.TestCase):
 
     def test_a_program_that_is_named(self) -> None:
         """Nothing is built for CODENAV_PROGRAM, which is called in its place."""
-        named = self.write("named", "#!/bin/sh\necho \"named $*\"\n")
+        named = self.write("named", '#!/bin/sh\necho "named $*"\n')
         os.chmod(named, 0o755)
         shutil.copytree(os.path.join(TOP, "tools/codenav"), f"{self.top}/tools/codenav")
         self.enterContext(mock.patch.dict(self.env, {"CODENAV_PROGRAM": named}))

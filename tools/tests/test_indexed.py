@@ -12,7 +12,7 @@ from codenav.texts.places import Place, uri_of
 from codenav.texts.revisions import Revision
 from codenav.texts.sources import sources_of
 from codenav.texts.today import IndexPlace, NotThere, Today
-from tests.repository import InRepository
+from tests.repository import InRepository, git_in
 
 TEXT = "fn one() {}\nfn two() {\n    one();\n}\n"
 NEW = "use x;\n\n" + TEXT.replace("    one();", "    one(); // again")
@@ -106,6 +106,13 @@ class Revisions(InRepository):
             f"^{shallow}: a shallow clone without {commit}: `git fetch --depth 1 origin {commit}` gets it$",
         ):
             self.revision(commit, shallow)
+        with self.assertRaisesRegex(
+            BadCall,
+            f"^{shallow}: a shallow clone without HEAD~1: `git fetch --unshallow --tags` gets all that there is$",
+        ):
+            self.revision("HEAD~1", shallow)
+        git_in(shallow, "fetch", "-q", "--unshallow", "--tags")
+        self.revision("HEAD~1", shallow).text("a")
         os.mkdir(plain)
         self.assertEqual(top_of(plain), "")
 

@@ -47,7 +47,9 @@ class Names(unittest.TestCase):
             with self.subTest(text), self.assertRaisesRegex(BadCall, "a set is 1 to 47"):
                 set_name(text)
         for text in f"a-{DIGITS}", f"a@{DIGITS}":
-            with self.subTest(text), self.assertRaisesRegex(BadCall, "is the name of a part of a set"):
+            with self.subTest(text), self.assertRaisesRegex(
+                BadCall, "is the name of a part of a set"
+            ):
                 set_name(text)
 
 
