@@ -738,6 +738,17 @@ class OddBytes(OnFolder):
                     )
                     self.assertEqual([one["uri"] for one in found], [uri])
 
+    def test_printed(self) -> None:
+        """What isn't UTF-8 of a name is a mark where it's said, of what is left out and of a fault."""
+        self.write("bad\udcff\udcfe.py", "def f(:\n")
+        state = os.path.join(self.home, "state\udcff", "none")
+        rows = {"bad\ufffd\ufffd.py, line 1": list[str](), "state\ufffd/none": ["--state", state]}
+        for wanted, words in rows.items():
+            with self.subTest(wanted=wanted):
+                line = [*command("index"), *words, self.folder, self.out]
+                said = subprocess.run(line, stderr=subprocess.PIPE, check=False).stderr.decode()
+                self.assertIn(wanted, said)
+
     @unittest.skipUnless(shutil.which("clangd"), "clangd isn't installed")
     def test_c(self) -> None:
         for name in self.names:
