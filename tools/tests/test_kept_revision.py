@@ -210,6 +210,28 @@ class Kept(Crates):
         )
         self.assertEqual((status, said), (2, line))
 
+    def test_a_folder_that_was_renamed(self) -> None:
+        """A map may name it as it was, or as it's called today."""
+        self.top, crate = os.path.join(self.home, "all"), os.path.join(self.home, "crate")
+        os.mkdir(self.top)
+        shutil.rmtree(os.path.join(crate, ".git"))
+        shutil.move(crate, self.top)
+        self.git("init", "-q")
+        commit = self.commit()
+        call = ["--no-tags", "--program", self.program, "--dump", RAW["crate"], self.url]
+        self.assertEqual(quietly(PUBLISH.main, *call, "temperature", f"{self.top}/crate")[0], 0)
+        self.git("mv", "crate", "lib")
+        self.git("mv", "lib/src/scale.rs", "lib/src/degrees.rs")
+        self.change("all/lib/src/lib.rs")
+        path = self.place("all/lib/src/lib.rs", *CALL[1:])
+        for name in "crate", "lib":
+            maps = ["--map", f"{ROOT}/crate={self.top}/{name}"]
+            words = [*maps, self.url, "temperature", "definition", *map(str, path)]
+            status, said, warned = quietly(ASK.main, *words)
+            changed = f"codenav ask: {path[0]} changed since: the answer is of {commit}\n"
+            self.assertEqual((status, warned), (0, changed), name)
+            self.assertEqual(os.path.abspath(said), f"{self.top}/lib/src/degrees.rs:4:8\n", name)
+
     def test_an_editor_and_a_page(self) -> None:
         """Both are open while the crate is changed and published anew, by and by."""
         self.published("crate")
