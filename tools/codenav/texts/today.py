@@ -20,6 +20,7 @@ if TYPE_CHECKING:
     from codenav.texts.revisions import Checkout
 
 Position = tuple[int, int]
+NOT_MAPPED = "; its places aren't mapped"
 MOST_MAPS = 32
 """Maps that are kept, those that were used last."""
 MOST_CHECKOUTS = 8
@@ -129,7 +130,12 @@ class Today:
     def reason(self, project: str) -> str:
         """Why the places of a project aren't mapped for want of a revision, or nothing."""
         revision, why = self.learnt.get(project, ("", ""))
-        return f"{project}: {why}; its places aren't mapped" if why and not revision else ""
+        return f"{project}: {why}{NOT_MAPPED}" if why and not revision else ""
+
+    def lacking(self, project: str, fault: str) -> str:
+        """Of why places aren't mapped, what is lacking of the revision that the index is of; nothing
+        where it's of none."""
+        return "" if fault == self.reason(project) else fault.removesuffix(NOT_MAPPED)
 
     def source(self, project: str, path: str) -> Optional[Source]:
         """Where the texts are that were indexed: as was said, by the settings of the file itself,
@@ -166,7 +172,7 @@ class Today:
             old, maps = source.old_path(path), self.old_maps(source, path)
             text = source.text(old)
         except BadCall as fault:
-            return *own, FileMap(path, None, f"{fault}; its places aren't mapped")
+            return *own, FileMap(path, None, f"{fault}{NOT_MAPPED}")
         text_map = self.kept_map(path, text, self.read(path))
         return old, uri_of(old, maps), FileMap(path, text_map, "", source.label)
 
@@ -250,7 +256,7 @@ class Today:
             old = path_of(uri, self.old_maps(source, path)) or path
             new, text = source.new_path(old), source.text(old)
         except BadCall as fault:
-            return FileMap(path, None, f"{fault}; its places aren't mapped")
+            return FileMap(path, None, f"{fault}{NOT_MAPPED}")
         try:
             return FileMap(new, self.kept_map(new, text, self.read(new)), "", source.label)
         except BadCall as fault:
