@@ -199,6 +199,11 @@ class OfHistory(Served, InRepository):
                     f"/files/{n}{of}#L{l}C{c}" for n, l, c in (one.split(":") for one in lines)
                 ]
                 self.assertEqual(found, wanted)
+        for asked, links in ("c.t", ["/files/sub/c.txt"]), ("rs&regex=1", []), ("zz", []):
+            with self.replies({"tags": []}):
+                page = self.page(f"/search?text={asked}")
+            files = page.partition("<h3>Files")[2].partition("</ul>")[0]
+            self.assertEqual(Words(files).links, links)
         self.assertIn("not a regular expression", self.page("/search?text=(&regex=1"))
         self.assertNotIn("<h3>Texts", self.page("/search"))
         with mock.patch.object(searched, "MOST_FOUND", 2):

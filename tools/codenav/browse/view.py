@@ -119,7 +119,7 @@ class View:
             project = self.workspace.project(settings, self.workspace.projects(settings, path)[0])
             with suppress(NoReply):
                 project.learn(path, again=True)
-            _, (_, found, _, label) = project.today.map_of(project.name, path)
+            _, _, (_, found, _, label) = project.today.map_of(project.name, path)
             return (None, "") if found is None or found.is_same else (found, label)
         return None, ""
 

@@ -22,12 +22,11 @@ from codenav.texts.git import (
     SECONDS,
     checked_top,
     commit_of,
-    copied_index,
     found_in,
-    git,
     no_revision,
 )
-from codenav.texts.places import work_tree
+from codenav.texts.places import is_inside, work_tree
+from codenav.texts.renames import Renames
 
 Found = TypeVar("Found")
 FRESH = 5.0
@@ -125,9 +124,7 @@ class Revision:
         self.commit, self.led = commit_of(top, revision), found_in(top, f"{revision}^{{commit}}")
         self.names = Batch(self.top, "--batch-check")
         self.blobs = Batch(self.top, "--batch", "--filters")
-        self.old_names: dict[str, str] = {}
-        self.new_names: dict[str, str] = {}
-        self.listed = -FRESH
+        self.renames = Renames(self.top)
         self.read: dict[str, tuple[float, str]] = {}
 
     def follow(self) -> None:
@@ -138,7 +135,7 @@ class Revision:
         led = words[0].decode() if words[1:2] == [b"commit"] else ""
         if led != self.led:
             self.commit, self.led = commit_of(self.top, self.name), led
-            self.old_names, self.new_names, self.listed = {}, {}, -FRESH
+            self.renames.forget()
 
     def end(self) -> None:
         """Ends the processes."""
@@ -159,15 +156,32 @@ class Revision:
         name = self.inside(path)
         return self.base(path, name) + self.new_name(name)
 
+    def old_folder(self, folder: str) -> str:
+        """The path that a folder of today had; its own where the revision has it, or where it's the
+        top of a work tree or outside."""
+        name = self.inside(folder)
+        is_part = (
+            name != os.curdir
+            and is_inside(name)
+            and work_tree(os.path.join(folder, "file")) == self.top
+        )
+        if not is_part or self.found(name)[1:2] == [b"tree"]:
+            return folder
+        return self.base(folder, name) + self.renames.old_folder(self.commit, name)
+
     def base(self, path: str, name: str) -> str:
         """The top of the work tree as a path names it; without links, where there are such behind
         it."""
         is_plain = path.endswith(os.sep + name)
         return path[: -len(name)] if is_plain else self.top + os.sep
 
+    def found(self, name: str) -> list[bytes]:
+        """What the revision has by a name: its object, of which kind it is, and more."""
+        return self.names.asked(f"{self.commit}:{name}").split(b" ")
+
     def blob(self, name: str) -> str:
         """The blob of a file of the revision, or nothing."""
-        words = self.names.asked(f"{self.commit}:{name}").split(b" ")
+        words = self.found(name)
         return words[0].decode() if words[1:2] == [b"blob"] else ""
 
     def text(self, name: str) -> str:
@@ -196,46 +210,11 @@ class Revision:
 
     def old_name(self, name: str) -> str:
         """The name at the revision of a file of today."""
-        if self.blob(name):
-            return name
-        if name not in self.old_names:
-            self.list_renames()
-        return self.old_names.get(name, name)
+        return name if self.blob(name) else self.renames.old_name(self.commit, name)
 
     def new_name(self, name: str) -> str:
         """The name of today of a file of the revision."""
-        if self.is_there(name):
-            return name
-        if not self.is_there(self.new_names.get(name, name)):
-            self.list_renames()
-        return self.new_names.get(name, name)
-
-    def is_there(self, name: str) -> bool:
-        """Whether there is a file of this name today."""
-        return os.path.lexists(os.path.join(self.top, name))
-
-    def list_renames(self) -> None:
-        """Lists which files have other names today, those that git doesn't know yet among
-        them; not more often than every few seconds."""
-        if time.monotonic() - self.listed < FRESH:
-            return
-        self.old_names, self.new_names = {}, {}
-        fields = iter(os.fsdecode(self.changes()).split("\0"))
-        for status in fields:
-            if status.startswith("R"):
-                old, new = next(fields), next(fields)
-                self.old_names[new], self.new_names[old] = old, new
-            elif status:
-                next(fields)
-        self.listed = time.monotonic()
-
-    def changes(self) -> bytes:
-        """What git says of the files that changed since the revision, by a copy of its index to
-        which new files are added."""
-        words = ["--no-ext-diff", "--ignore-submodules", "--find-renames", "--name-status", "-z"]
-        with copied_index(self.top) as variables:
-            git(self.top, "add", "--intent-to-add", ".", variables=variables)
-            return git(self.top, "diff", *words, self.commit, "--", variables=variables) or b""
+        return self.renames.new_name(self.commit, name)
 
 
 class Checkout:
@@ -275,6 +254,10 @@ class Checkout:
     def old_path(self, path: str) -> str:
         """The path that a file of today had, before it was renamed."""
         return self.of(path).old_path(path)
+
+    def old_folder(self, folder: str, path: str) -> str:
+        """The path that a folder of today had, as far as it's in the work tree of a file."""
+        return self.of(path).old_folder(folder)
 
     def new_path(self, path: str) -> str:
         """The path that a file has today."""
