@@ -7,7 +7,9 @@ import re
 import shutil
 import unittest
 from typing import Callable
+from unittest import mock
 
+from codenav.index.typescript import checker
 from tests.test_index import OnFolder
 
 Tree = dict[str, str]
@@ -224,6 +226,45 @@ class OfGo(OfC):
         self.put(tree)
         self.again()
         self.assert_answers({("definition", "d/d.go", 4, 15): ["a.go:10"]})
+
+
+@unittest.skipIf(checker.lacks(), "node or node-typescript isn't installed")
+class OfTypeScript(Again):
+    files = {
+        "tsconfig.json": '{"include": ["src/**/*.ts"]}',
+        "package.json": '{"name": "app", "version": "1.0.0", "main": "src/main.ts"}',
+        "src/main.ts": "import { run } from './made';\nimport { lib } from 'lib';\nrun(); lib.x;\n",
+        "src/made.ts": "export function run() { return 1; }\n",
+    }
+    changes = {
+        "src/made.ts": "\nexport function run() { return 1; }\n",
+        "src/more.ts": "export const more = 1;\n",
+        "node_modules/lib/index.d.ts": "export declare const lib: { x: number };\n",
+        "node_modules/lib/package.json": '{"name": "lib", "version": "2.0.0", "types": "other.d.ts"}',
+        "node_modules/lib/other.d.ts": "export declare const lib: { y: number; x: string };\n",
+        "package.json": '{"name": "app", "version": "2.0.0", "main": "src/more.ts"}',
+        "tsconfig.json": '{"include": ["src/made.ts"], "compilerOptions": {"strict": true}}',
+        "src/made.d.ts": "export function run(): string;\n",
+    }
+
+    def test_no_change(self) -> None:
+        """Nothing is asked, whatever else comes into the folder."""
+        self.again()
+        self.put({**self.files, "notes.txt": "none"})
+        with mock.patch.object(checker, "printed", side_effect=AssertionError):
+            self.assertEqual(self.call("--state", self.state)[0], 0)
+
+    def test_changes(self) -> None:
+        """What the compiler reads or looks for has it asked again where it comes, goes or differs."""
+        tree = dict(self.files)
+        self.again()
+        for name, text in self.changes.items():
+            with self.subTest(name=name):
+                tree[name] = text
+                self.put(tree)
+                self.again()
+        self.put(self.files)
+        self.again()
 
 
 if __name__ == "__main__":
