@@ -7,6 +7,7 @@ import shutil
 import unittest
 from typing import Callable
 
+from codenav.index.kept import read
 from tests.test_index import OnFolder
 
 Tree = dict[str, str]
@@ -100,6 +101,10 @@ class StoodIn(Again):
                 status, said = self.stood_in("--state", self.state)
                 self.assertEqual(status, wanted, said)
                 self.assertEqual(said.count("\n") == 0, wanted == 2, said)
+        for first, is_known in (lines[0], True), ('["form","codenav index 0, 0"]\n', False):
+            with open(self.state, "w", encoding="utf-8") as file:
+                file.writelines([first, *lines[1:]])
+            self.assertEqual(read(self.state) != {}, is_known)
         os.unlink(self.state)
         self.again()
         with open(os.path.join(self.folder, "compile_flags.txt"), "w", encoding="utf-8") as file:
