@@ -7,7 +7,9 @@ import shutil
 import unittest
 from typing import Callable
 
-from codenav.index.kept import read
+from codenav.index.again import declared
+from codenav.index.answers import Name
+from codenav.index.kept import Kept, Known, read
 from tests.test_index import OnFolder
 
 Tree = dict[str, str]
@@ -54,6 +56,30 @@ class Again(OnFolder):
                 with self.subTest(seed=seed, step=step):
                     self.again()
                 edit(chance, tree)
+
+
+class Declared(unittest.TestCase):
+    """What a document declares otherwise than before."""
+
+    def test_kinds(self) -> None:
+        """What types have differs by any name but a function, a variable or a constant, and by the
+        size of anything but a method."""
+        for kind in range(1, 27):
+            one = Name(("A",), "one_two", kind, (2, 9), "int")
+            is_plain = kind in (12, 13, 14)
+            for after, words, differs in (
+                (one, set[str](), False),
+                (one._replace(size=(3, 9)), {"one_two"}, not is_plain and kind != 6),
+                (one._replace(detail="long"), {"one_two"}, not is_plain),
+                (one._replace(name="two"), {"two"}, not is_plain),
+                (None, set[str](), not is_plain),
+            ):
+                with self.subTest(kind, after=after):
+                    kept = Kept(
+                        documents={"file:///a": Known("", names={("file:///a", 1, 2): one})}
+                    )
+                    names = {("file:///a", 8, 2): after} if after else {}
+                    self.assertEqual(declared(names, kept, ["file:///a"]), (words, differs))
 
 
 class StoodIn(Again):
