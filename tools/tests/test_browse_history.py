@@ -158,6 +158,24 @@ class OfHistory(Served, InRepository):
         self.page("/compare/b.rs?from=none", 404)
         self.page("/compare/none.rs", 404)
 
+    def test_of_which_revision_a_page_is(self) -> None:
+        """What differs is shown on a page of the later one, and other pages know none of the two."""
+        for path, revision in (
+            (f"/compare/a.rs?from={self.first}&to={self.second}", self.second),
+            (f"/compare/a.rs?from={self.first}&revision={self.second}", self.second),
+            (f"/compare/b.rs?from={self.third}", ""),
+            (f"/files/b.rs?from={self.first}&to={self.second}", ""),
+            (f"/blame/a.rs?to={self.first}&revision={self.second}", self.second),
+        ):
+            name = path[path.index("/", 1) + 1 : path.index("?")]
+            of = f"?revision={revision}" if revision else ""
+            views = self.page(path).partition('<nav id="views"')[2].partition("</nav>")[0]
+            self.assertEqual(
+                Words(views).links,
+                [f"/{page}/{name}{of}" for page in ("files", "blame", "history", "compare")],
+                path,
+            )
+
     def test_a_word_of_an_old_text_leads_on(self) -> None:
         """A word that the page of what differs has, by the link there."""
         place = {**PLACE, "uri": f"file://{self.top}/a.rs", "start": {"line": 0, "character": 3}}

@@ -9,6 +9,9 @@ import unittest
 from typing import Callable
 from unittest import mock
 
+from codenav.index.again import declared
+from codenav.index.answers import Name
+from codenav.index.kept import Kept, Known, read
 from codenav.index.typescript import checker
 from tests.test_index import OnFolder
 
@@ -67,6 +70,30 @@ class Again(OnFolder):
                 edit(chance, tree)
 
 
+class Declared(unittest.TestCase):
+    """What a document declares otherwise than before."""
+
+    def test_kinds(self) -> None:
+        """What types have differs by any name but a function, a variable or a constant, and by the
+        size of anything but a method."""
+        for kind in range(1, 27):
+            one = Name(("A",), "one_two", kind, (2, 9), "int")
+            is_plain = kind in (12, 13, 14)
+            for after, words, differs in (
+                (one, set[str](), False),
+                (one._replace(size=(3, 9)), {"one_two"}, not is_plain and kind != 6),
+                (one._replace(detail="long"), {"one_two"}, not is_plain),
+                (one._replace(name="two"), {"two"}, not is_plain),
+                (None, set[str](), not is_plain),
+            ):
+                with self.subTest(kind, after=after):
+                    kept = Kept(
+                        documents={"file:///a": Known("", names={("file:///a", 1, 2): one})}
+                    )
+                    names = {("file:///a", 8, 2): after} if after else {}
+                    self.assertEqual(declared(names, kept, ["file:///a"]), (words, differs))
+
+
 class StoodIn(Again):
     def call(self, *words: str) -> tuple[int, str]:
         return self.stood_in(*words)
@@ -112,6 +139,10 @@ class StoodIn(Again):
                 status, said = self.stood_in("--state", self.state)
                 self.assertEqual(status, wanted, said)
                 self.assertEqual(said.count("\n") == 0, wanted == 2, said)
+        for first, is_known in (lines[0], True), ('["form","codenav index 0, 0"]\n', False):
+            with open(self.state, "w", encoding="utf-8") as file:
+                file.writelines([first, *lines[1:]])
+            self.assertEqual(read(self.state) != {}, is_known)
         os.unlink(self.state)
         self.again()
         with open(os.path.join(self.folder, "compile_flags.txt"), "w", encoding="utf-8") as file:

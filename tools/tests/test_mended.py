@@ -9,6 +9,7 @@ from contextlib import redirect_stderr
 from typing import Optional
 
 from codenav.cli.prepare import PREPARE
+from codenav.dumps.prepare.survey import text
 from tests.test_explain import base, edge, span, vertex
 
 MONIKER = {"scheme": "s", "identifier": "i"}
@@ -120,10 +121,21 @@ LEFT_OUT: list[tuple[str, dict[str, Optional[str]]]] = [
 
 
 class Said(unittest.TestCase):
+    def test_ids(self) -> None:
+        """A long one is cut to 80 characters."""
+        for own, shown in (
+            (7, "7"),
+            ("a", '"a"'),
+            ("x" * 78, f'"{"x" * 78}"'),
+            ("x" * 79, f'"{"x" * 75}..."'),
+        ):
+            self.assertEqual(text(own), shown)
+            self.assertLessEqual(len(shown), 80)
+
     def test_each(self) -> None:
         for kind, rows in ("mended", MENDED), ("left out", LEFT_OUT):
-            for text, changes in rows:
-                with self.subTest(text), tempfile.TemporaryDirectory() as folder:
+            for flaws, changes in rows:
+                with self.subTest(flaws), tempfile.TemporaryDirectory() as folder:
                     path = os.path.join(folder, "raw")
                     with open(path, "w", encoding="utf-8") as file:
                         file.writelines(f"{line}\n" for line in base(**changes))
@@ -132,7 +144,7 @@ class Said(unittest.TestCase):
                         self.assertEqual(PREPARE.main(words), 0, said.getvalue())
                     lines = [
                         f"codenav prepare: {kind}: {one.replace(', line', ', the first at line')}"
-                        for one in text.split("; ")
+                        for one in flaws.split("; ")
                     ]
                     self.assertEqual(said.getvalue().splitlines()[1:], lines)
 

@@ -3,7 +3,6 @@
 import argparse
 import os
 import sys
-import tempfile
 from contextlib import contextmanager
 from dataclasses import dataclass
 from typing import Any, Iterator, Optional, Sequence
@@ -13,7 +12,7 @@ from codenav.cli.options import URL_HELP, add_words, named_all, url_in
 from codenav.cli.published import as_json, counted, documents, not_uploaded, table, uploaded
 from codenav.cli.show import Shown
 from codenav.faults import BadCall
-from codenav.files import whole_file
+from codenav.files import new_folder, whole_file
 from codenav.index.indexers import INDEXERS
 from codenav.names import shown_name
 from codenav.printed import line as printed
@@ -131,7 +130,7 @@ def work_folder(kept: Optional[str]) -> Iterator[str]:
         os.makedirs(kept, exist_ok=True)
         yield os.path.abspath(kept)
         return
-    with tempfile.TemporaryDirectory(prefix="codenav-publish-") as folder:
+    with new_folder("codenav-publish-") as folder:
         yield folder
 
 

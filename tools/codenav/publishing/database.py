@@ -4,12 +4,12 @@ requests from a pipe. So what is too much to upload while others ask is made bes
 
 import os
 import subprocess
-import tempfile
 from typing import Any
 
 from codenav.client.http import Answer, address
 from codenav.client.projects import fresh_key
 from codenav.faults import BadCall, NoReply
+from codenav.files import new_folder
 from codenav.program import Program, end_with_parent
 from codenav.publishing.made import Made
 from codenav.publishing.send import Sent, accepted
@@ -95,7 +95,7 @@ def put_all(store: Store, made: Made) -> Sent:
 def publish_into(program: Program, path: str, made: Made) -> Sent:
     """Puts what was made into the database of a path, beside what it has, where it's there: all of
     it or nothing. Raises Refused and BadCall."""
-    with tempfile.TemporaryDirectory(prefix=".codenav-", dir=os.path.dirname(path)) as folder:
+    with new_folder(".codenav-", os.path.dirname(path)) as folder:
         new = os.path.join(folder, "index.db")
         for end in "", LOG:
             if os.path.exists(path + end):

@@ -286,7 +286,7 @@ def is_sound(own: Any) -> bool:
 def text(own: Any) -> str:
     """An id as a message has it, cut."""
     shown = str(own) if isinstance(own, int) else f'"{own}"'
-    return shown if len(shown) <= 80 else shown[:77] + '..."'
+    return shown if len(shown) <= 80 else shown[:76] + '..."'
 
 
 def digest(*parts: str) -> bytes:
