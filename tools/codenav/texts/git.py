@@ -119,5 +119,6 @@ def copied_index(top: str) -> Iterator[dict[str, str]]:
 def no_revision(top: str, revision: str) -> str:
     """Why a revision isn't in a repository, in one line."""
     if line_of(git(top, "rev-parse", "--is-shallow-repository")) == "true":
-        return f"{top}: a shallow clone without {revision}: `git fetch --depth 1 origin {revision}` gets it"
+        words = "--unshallow" if set("^~@") & set(revision) else f"--depth 1 origin {revision}"
+        return f"{top}: a shallow clone without {revision}: `git fetch {words}` gets it"
     return f"{top}: git knows no revision {revision}"
