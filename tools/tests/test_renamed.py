@@ -6,7 +6,7 @@ import os
 from random import Random
 
 from codenav.texts.places import Place, asked_path, maps_of
-from codenav.texts.revisions import Checkout
+from codenav.texts.checkout import Checkout
 from codenav.texts.today import Today
 from tests.repository import InRepository
 

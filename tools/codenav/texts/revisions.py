@@ -10,9 +10,10 @@ import subprocess
 import threading
 import time
 from contextlib import suppress
-from typing import Callable, Optional, TypeVar
+from functools import cached_property
+from typing import Optional
 
-from codenav.faults import BadCall
+from codenav.faults import BadCall, NoFile
 from codenav.records import COMMIT
 from codenav.texts.decoded import decoded
 from codenav.texts.git import (
@@ -20,15 +21,14 @@ from codenav.texts.git import (
     ENVIRONMENT,
     NO_ANSWER,
     SECONDS,
-    checked_top,
     commit_of,
     found_in,
+    git,
     no_revision,
 )
 from codenav.texts.places import is_inside, work_tree
 from codenav.texts.renames import Renames
 
-Found = TypeVar("Found")
 FRESH = 5.0
 """Seconds for which it stands that git didn't find something."""
 AWAY = 60.0
@@ -177,12 +177,24 @@ class Revision:
 
     def found(self, name: str) -> list[bytes]:
         """What the revision has by a name: its object, of which kind it is, and more."""
+        if is_odd(name):
+            return self.listed_as(name).split()[:0:-1]
         return self.names.asked(f"{self.commit}:{name}").split(b" ")
+
+    @cached_property
+    def is_partial(self) -> bool:
+        """Whether it's a partial clone, which has no texts but those of what was checked out."""
+        return git(self.top, "config", "--get-regexp", r"^remote\..*\.promisor$") is not None
 
     def blob(self, name: str) -> str:
         """The blob of a file of the revision, or nothing."""
         words = self.found(name)
         return words[0].decode() if words[1:2] == [b"blob"] else ""
+
+    def listed_as(self, name: str) -> bytes:
+        """What git prints of a name in the revision, up to the name; nothing where it has none."""
+        said = git(self.top, "ls-tree", "-z", "--full-tree", self.commit, "--", name)
+        return (said or b"").partition(b"\t")[0]
 
     def text(self, name: str) -> str:
         """The text of a file of the revision, as a checkout writes it, which stands for some
@@ -191,22 +203,33 @@ class Revision:
         self.read = {one: own for one, own in self.read.items() if now - own[0] < FRESH}
         asked = f"{blob} {name}"
         if asked not in self.read:
-            self.read[asked] = now, self.filtered(asked if blob else "", name)
+            self.read[asked] = now, self.filtered(blob, name)
         return self.read[asked][1]
 
-    def filtered(self, asked: str, name: str) -> str:
+    def filtered(self, blob: str, name: str) -> str:
         """What git prints of a blob of that name. Raises BadCall where there is none."""
-        found = self.blobs.asked(asked) if asked else b""
-        _, mark, body = found.partition(b"\n")
-        if not mark:
-            is_gone = self.names.asked(self.commit).endswith(b" missing\n")
-            raise BadCall(
-                no_revision(self.top, self.name) if is_gone else f"{name}: not in {self.name}"
-            )
+        body = self.body(blob, name) if blob else None
+        if body is None:
+            raise self.none(name)
         try:
-            return decoded(body[:-1])
+            return decoded(body)
         except ValueError as fault:
             raise BadCall(f"{name}: {fault} in {self.name}") from None
+
+    def body(self, blob: str, name: str) -> Optional[bytes]:
+        """The bytes of a blob of that name, as a checkout writes it."""
+        if is_odd(name):
+            return git(self.top, "cat-file", "--filters", f"--path={name}", blob)
+        _, mark, body = self.blobs.asked(f"{blob} {name}").partition(b"\n")
+        return body[:-1] if mark else None
+
+    def none(self, name: str) -> BadCall:
+        """Why a file has no text."""
+        if self.names.asked(self.commit).endswith(b" missing\n"):
+            return BadCall(no_revision(self.top, self.name))
+        if self.is_partial and self.listed_as(name):
+            return BadCall(f"{name}: not fetched, in a partial clone, as it was in {self.name}")
+        return NoFile(f"{name}: not in {self.name}")
 
     def old_name(self, name: str) -> str:
         """The name at the revision of a file of today."""
@@ -217,58 +240,6 @@ class Revision:
         return self.renames.new_name(self.commit, name)
 
 
-class Checkout:
-    """The texts that were indexed are those of a revision, in the work tree that a file is in."""
-
-    def __init__(self, revision: str) -> None:
-        self.label = revision
-        self.tops: dict[str, str] = {}
-        self.revisions: dict[str, Revision] = {}
-        self.faults: dict[str, tuple[float, str]] = {}
-
-    def of(self, path: str) -> Revision:
-        """The revision of the work tree that a file is in. Raises BadCall where it's in none, or
-        that has no such revision."""
-        folder = work_tree(path) or os.path.dirname(os.path.realpath(path))
-        while not os.path.isdir(folder):
-            folder = os.path.dirname(folder)
-        top = self.once(self.tops, folder, checked_top)
-        revision = self.once(self.revisions, top, lambda own: Revision(own, self.label))
-        revision.follow()
-        return revision
-
-    def once(self, known: dict[str, Found], key: str, find: Callable[[str], Found]) -> Found:
-        """What is known of a folder, or is found of it now. Raises BadCall, for some seconds without
-        another look."""
-        if key not in known:
-            since, fault = self.faults.get(key, (0.0, ""))
-            if fault and time.monotonic() - since < FRESH:
-                raise BadCall(fault)
-            try:
-                known[key] = find(key)
-            except BadCall as failed:
-                self.faults[key] = time.monotonic(), str(failed)
-                raise
-        return known[key]
-
-    def old_path(self, path: str) -> str:
-        """The path that a file of today had, before it was renamed."""
-        return self.of(path).old_path(path)
-
-    def old_folder(self, folder: str, path: str) -> str:
-        """The path that a folder of today had, as far as it's in the work tree of a file."""
-        return self.of(path).old_folder(folder)
-
-    def new_path(self, path: str) -> str:
-        """The path that a file has today."""
-        return self.of(path).new_path(path)
-
-    def text(self, path: str) -> str:
-        """The text of a file of the revision."""
-        revision = self.of(path)
-        return revision.text(revision.inside(path))
-
-    def end(self) -> None:
-        """Ends git."""
-        for revision in self.revisions.values():
-            revision.end()
+def is_odd(name: str) -> bool:
+    """Whether a name can't be a line for `git cat-file --batch`."""
+    return "\n" in name or name.endswith("\r")
