@@ -92,9 +92,9 @@ class OnService(unittest.TestCase):
         return done.returncode, said + warned
 
     def service(self, *words: str, is_slow: bool = False) -> "subprocess.Popen[str]":
-        """The service, which serves."""
-        process = self.supervised(*words, is_slow=is_slow)
-        self.until(lambda: process.poll() is not None or self.answers())
+        """The service, which serves, and has named its side."""
+        process, side = self.supervised(*words, is_slow=is_slow), f"{self.folder}/side"
+        self.until(lambda: process.poll() is not None or os.path.exists(side) and self.answers())
         self.assertIsNone(process.poll())
         return process
 
@@ -293,6 +293,166 @@ class Starts(OnService):
             lines.append(process.stderr.readline())
             self.assertNotEqual(lines[-1], "", lines)
         late.cancel()
+
+
+class Sides(OnService):
+    """A side that's named and gone, or lost, and one that a person wrote: nothing is served, copied
+    or changed then, and one line says so."""
+
+    def setUp(self) -> None:
+        super().setUp()
+        process = self.service()
+        self.put("one", "k")
+        self.ended(process)
+
+    def seen(self) -> dict[str, bytes]:
+        """The files of the folder but for its lock, with what they have."""
+        found = {}
+        for at, _, names in os.walk(self.folder):
+            for name in names:
+                with open(os.path.join(at, name), "rb") as file:
+                    found[os.path.relpath(os.path.join(at, name), self.folder)] = file.read()
+        return {path: text for path, text in found.items() if path != "lock"}
+
+    def refuses(self, text: str, *, restores: bool = False) -> None:
+        """Has `supervise` end with 78, `backup` and, but for where it helps, `restore` with 2, each
+        by one line with the text, and nothing be changed."""
+        before, own = self.seen(), ["--program", self.program]
+        calls = {"supervise": (78, [*own, "--port", str(self.port), self.folder])}
+        calls["backup"] = 2, [*own, self.folder, self.copies]
+        if not restores:
+            calls["restore"] = 2, [self.other(), self.folder]
+        for word, (wanted, words) in calls.items():
+            status, said = self.called(word, *words)
+            self.assertEqual((status, said.count("\n")), (wanted, 1), said)
+            self.assertIn(f"codenav {word}: {self.folder}/{text}", said)
+            self.assertEqual(self.seen(), before, word)
+
+    def other(self) -> str:
+        """A copy that was made elsewhere."""
+        path = f"{self.base}/elsewhere"
+        if not os.path.isdir(path):
+            os.mkdir(path)
+            with Program(self.program).serve(f"{path}/index.db"):
+                pass
+            digests.keep(f"{path}/index.db")
+        return path
+
+    def second(self) -> None:
+        """Has the second side be in use."""
+        os.rename(f"{self.folder}/a", f"{self.folder}/b")
+        self.named(b"b\n")
+
+    def named(self, text: bytes) -> None:
+        with open(f"{self.folder}/side", "wb") as out:
+            out.write(text)
+
+    def serves(self, text: str) -> None:
+        process = self.service()
+        self.assertEqual(self.hover(), f'{{"contents":"{text}"}}'.encode())
+        self.ended(process)
+
+    def test_a_side_that_is_gone(self) -> None:
+        """It's the same for the first one, which a service names itself, for one whose folder is
+        there alone, and where the other side has what a killed turn left."""
+        for side in "a", "b":
+            if side == "b":
+                self.second()
+            os.rename(f"{self.folder}/{side}", f"{self.base}/away")
+            for has_folder, has_other in (False, False), (True, False), (False, True):
+                with suppress(FileNotFoundError):
+                    os.rmdir(f"{self.folder}/{side}")
+                if has_folder:
+                    os.mkdir(f"{self.folder}/{side}")
+                if has_other:
+                    other = f"{self.folder}/{'ab'.replace(side, '')}"
+                    shutil.copytree(self.other(), other)
+                text = f"side: names {side}, and {self.folder}/{side}/index.db isn't there"
+                self.refuses(text, restores=True)
+                if has_other:
+                    shutil.rmtree(other)
+            os.rename(f"{self.base}/away", f"{self.folder}/{side}")
+            self.serves("one")
+
+    def test_a_restore_of_a_side_that_is_gone(self) -> None:
+        """A restore puts a copy in its place; without `side` an empty database is begun."""
+        shutil.copytree(f"{self.folder}/a", f"{self.base}/kept")
+        for number in range(2):
+            shutil.rmtree(f"{self.folder}/{side_of(self.folder)}")
+            status, said = self.called("restore", f"{self.base}/kept", self.folder)
+            self.assertEqual(status, 0, (number, said))
+            self.serves("one")
+        shutil.rmtree(f"{self.folder}/{side_of(self.folder)}")
+        os.unlink(f"{self.folder}/side")
+        process = self.service()
+        self.assertIn(b"D01", self.hover())
+        self.ended(process)
+
+    def test_a_lost_side(self) -> None:
+        """Where the second side has a database it isn't known which one is in use, whether the
+        first has one too or not; of the first alone it's known."""
+        self.second()
+        os.unlink(f"{self.folder}/side")
+        lost = f"side: isn't there, and {self.folder}/b/index.db is: write a or b there"
+        self.refuses(lost)
+        os.mkdir(f"{self.folder}/a")
+        self.refuses(lost)
+        shutil.copy(f"{self.other()}/index.db", f"{self.folder}/a/index.db")
+        self.refuses(lost)
+        self.named(b"b")
+        self.serves("one")
+        shutil.rmtree(f"{self.folder}/a")
+        os.rename(f"{self.folder}/b", f"{self.folder}/a")
+        os.unlink(f"{self.folder}/side")
+        self.serves("one")
+
+    def test_a_side_that_is_none(self) -> None:
+        for text, shown in (
+            (b"zz", "'zz'"),
+            (b"", "''"),
+            (b"c\n", "'c'"),
+            (b"a\nb\n", "'a\\nb'"),
+            (b"\xff", "'\ufffd'"),
+            (b"a\xff\n", "'a\ufffd'"),
+            (b"\0" * 50, f"'{chr(92)}x00"),
+        ):
+            self.named(text)
+            self.refuses(f"side: not a side: {shown}")
+        self.named(b" a\n\n")
+        self.serves("one")
+
+    def test_a_restore_to_a_new_folder_that_is_killed(self) -> None:
+        """The folder is still a new one, with which a service starts."""
+        copy, own = f"{self.base}/copy", self.folder
+        os.rename(f"{own}/a", copy)
+        for is_made in False, True:
+            self.folder = f"{self.base}/new-{is_made}"
+            if is_made:
+                os.mkdir(self.folder)
+            restoring = self.launched("restore", copy, self.folder, is_slow=True)
+            self.until(lambda: os.path.exists(f"{self.base}/copying"))
+            os.unlink(f"{self.base}/copying")
+            restoring.kill()
+            restoring.wait()
+            if is_made:
+                self.ended(self.service())
+            self.assertEqual(self.called("restore", copy, self.folder)[0], 0)
+            self.serves("one")
+
+    def test_a_side_that_is_changed_while_it_serves(self) -> None:
+        """A turn that isn't taken ends nothing."""
+        words = ["--port", str(self.port - 1), "--front", f"http://127.0.0.1:{free_port()}"]
+        process = self.launched("supervise", "--program", self.program, *words, self.folder)
+        self.until(self.answers)
+        for text in b"b\n", b"\xff", None:
+            if text is None:
+                os.unlink(f"{self.folder}/side")
+            else:
+                self.named(text)
+            status, said = self.called("turn", self.folder)
+            self.assertEqual((status, "no turn: " in said), (1, True), said)
+            self.assertEqual((self.answers(), side_of(self.folder)), (True, "a"))
+        self.assertEqual(self.ended(process)[0], 0)
 
 
 class Watched(OnService):

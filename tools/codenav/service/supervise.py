@@ -10,10 +10,21 @@ import signal
 import time
 from typing import Optional, Union
 
+from codenav.faults import BadCall
 from codenav.program import Running
 from codenav.progress import Shows
 from codenav.service import digests
-from codenav.service.folder import Serving, database_at, locked, note, other, serving_of, side_of
+from codenav.service.folder import (
+    Serving,
+    database_at,
+    locked,
+    note,
+    other,
+    serving_of,
+    side_with_database,
+    use,
+    written,
+)
 from codenav.service.front import NoFront, told
 from codenav.service.hung import Watch
 from codenav.service.measures import write
@@ -77,7 +88,7 @@ class Supervisor:
                 if known is not None and known.supervisor != os.getpid():
                     text = f"{self.folder} is served by process {known.supervisor}"
                     return Refusal(text, True)
-                self.side = side_of(self.folder)
+                self.side = side_with_database(self.folder)
                 database = database_at(self.folder, self.side)
                 os.makedirs(os.path.dirname(database), mode=0o700, exist_ok=True)
                 if changed := digests.difference(database):
@@ -89,6 +100,8 @@ class Supervisor:
                 return server
         except OSError as fault:
             return refusal_by(fault, self.folder)
+        except BadCall as fault:
+            return Refusal(str(fault), False)
 
     def noted(self, server: Running) -> None:
         """Says who serves, where the disk has room for it: `turn` asks for that alone."""
@@ -108,6 +121,7 @@ class Supervisor:
                 said = f"serves {server.database} after {time.monotonic() - begin:.1f} s"
                 self.shows.warn(said)
                 say("READY=1", f"STATUS={said}")
+                self.keep_side()
             if watch is not None and self.is_due():
                 server = self.turned(server)
             if watch is not None and watch.hangs(server):
@@ -116,6 +130,14 @@ class Supervisor:
             self.measure()
             time.sleep(TICK)
         return server
+
+    def keep_side(self) -> None:
+        """Names the first side when its database is there, so that it's known where that's lost."""
+        try:
+            if written(self.folder) is None:
+                use(self.folder, self.side)
+        except OSError as fault:
+            self.shows.warn(f"{self.folder}/side isn't written: {fault.strerror}")
 
     def measure(self) -> None:
         """Says now and then that the service goes on, and how."""
