@@ -214,9 +214,45 @@ class OfFront:
                 self.assertEqual(found[2], direct.body)
             self.assertGreater(len(direct.body), 3_000_000)
 
-        def test_health_log_and_measures(self) -> None:
-            for method in "GET", "HEAD":
-                self.assertEqual(self.front.ask(method, "/health", login=None)[0], 200)
+        def test_health(self) -> None:
+            """It says that the server answers, and nothing of the index, whoever may read that."""
+            server = self.own_server()
+            body = (DUMP % "own").encode()
+            to = f"http://{server}/projects/own/lsif?key=k"
+            self.assertEqual(request(to, "PUT", io.BytesIO(body), seconds=SECONDS).status, 200)
+
+            def without_readers(text: str) -> str:
+                return text.replace('"~^ read " yes;\n', "")
+
+            every: tuple[Callable[[str], str], ...] = (str, without_readers)
+            for rights in every:
+                front = self.fresh([server], rights=rights)
+                for path in "/health", "/health?a=b", "/%68ealth", "//health":
+                    for method, said in ("GET", b'{"health":"answers"}'), ("HEAD", b""):
+                        status, fields, found = front.ask(method, path, login=None)
+                        self.assertEqual((status, found), (200, said), path)
+                        self.assertEqual(fields["Content-Type"], "application/json")
+
+        def test_health_of_a_server_that_does_not_answer(self) -> None:
+            """One that refuses, and one that says nothing, is 503."""
+            slow = self.enterContext(socket.create_server(("127.0.0.1", 0)))
+            refusing = self.enterContext(socket.create_server(("127.0.0.1", 0)))
+            reply = b"HTTP/1.1 503 Service Unavailable\r\nContent-Length: 2\r\n\r\n{}"
+
+            def refuse() -> None:
+                with suppress(OSError):
+                    while True:
+                        with refusing.accept()[0] as client:
+                            client.recv(65536)
+                            client.sendall(reply)
+
+            threading.Thread(target=refuse, daemon=True).start()
+            for listener in slow, refusing:
+                front = self.fresh([f"127.0.0.1:{listener.getsockname()[1]}"])
+                status, _, body = front.ask("GET", "/health", login=None)
+                self.assertEqual((status, json.loads(body)["fault"]), (503, "front"))
+
+        def test_log_and_measures(self) -> None:
             self.front.ask("GET", "/names?name=logged")
             # it's logged when the reply is out
             stop, found = time.monotonic() + 10, False
