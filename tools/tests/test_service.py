@@ -181,6 +181,24 @@ class Starts(OnService):
         os.unlink(f"{database}.digest")
         self.assertNotIn("changed since", self.ended(self.supervised())[1])
 
+    def test_small_files_of_any_bytes(self) -> None:
+        """A digest that's no text is another one, and what isn't known of a server isn't asked."""
+        for text in b"[" * 100_000, b"\xff", b"{}", b"[]", b"":
+            with open(f"{self.folder}/server", "wb") as out:
+                out.write(text)
+            self.assertEqual(self.called("turn", self.folder)[0], 2)
+            self.assertEqual(self.ended(self.service())[0], 0)
+        database = database_at(self.folder, "a")
+        for text in b"\xff\xfe", b"\0", b"":
+            with open(f"{database}.digest", "wb") as out:
+                out.write(text)
+            status, said = self.refused()
+            self.assertEqual((status, said.count("\n")), (78, 1), said)
+            self.assertIn(f"codenav supervise: {database}: changed since its server ended", said)
+            status, said = self.called("restore", f"{self.folder}/a", f"{self.base}/other")
+            text_of = f"codenav restore: {self.folder}/a: the copy changed since it was made\n"
+            self.assertEqual((status, said), (2, text_of))
+
     def prepared(self, text: str) -> str:
         """A database that has a dump whose hover says the text, all of it in the file itself."""
         body, database = DUMP % text, database_at(self.folder, "a")

@@ -48,11 +48,11 @@ def difference(database: str) -> Optional[str]:
     """What isn't as it was when the digest was kept, if something isn't; nothing where none was
     kept."""
     try:
-        with open(database + ENDING, encoding="utf-8") as file:
+        with open(database + ENDING, "rb") as file:
             kept = file.read()
     except FileNotFoundError:
         return None
-    if text_of(database) == kept:
+    if text_of(database).encode() == kept:
         return None
     return (
         f"{database}: changed since its server ended: restore a backup, or remove {database}{ENDING} "
