@@ -264,6 +264,75 @@ class Starts(OnService):
         status, said = self.refused()
         self.assertEqual((status, is_said in said), (78, True), said)
 
+    def test_numbers_out_of_range(self) -> None:
+        """They're refused by one line before anything is touched."""
+        self.ended(self.service())
+        front, before = ("--front", "http://127.0.0.1:9"), self.kept()
+        for *words, said_of in (
+            ("--port", "0", "port is 1 to 65535"),
+            ("--port", "-1", "port is 1 to 65535"),
+            ("--port", "65536", "port is 1 to 65535"),
+            ("--port", "65534", *front, "port is 1 to 65533"),
+            ("--requests", "0", "requests is 1 to 1000000"),
+            ("--requests", "1000001", "requests is 1 to 1000000"),
+        ):
+            given = ["--program", self.program, *words, self.folder]
+            found = self.called("supervise", *given)
+            self.assertEqual(found, (2, f"codenav supervise: --{said_of}\n"))
+            self.assertEqual(self.kept(), before)
+
+    def kept(self) -> tuple[list[str], bytes]:
+        """The names in the side in use, and the digest there."""
+        path = f"{self.folder}/{side_of(self.folder)}"
+        with open(f"{path}/index.db.digest", "rb") as file:
+            return sorted(os.listdir(path)), file.read()
+
+    def test_servers_that_do_not_serve(self) -> None:
+        """A server that ends before it listens, over and over, is said once, and what's known of
+        the database stays known."""
+        process = self.service()
+        self.put("one", "k")
+        self.ended(process)
+        before, own, calls = self.kept(), self.program, f"{self.base}/calls"
+        self.program = f"{self.base}/ending"
+        for number, said_of in (0, ""), (3, ""), (2, "codenav: of a kind"), (1, "one\ntwo"):
+            with open(self.program, "w", encoding="utf-8") as script:
+                script.write(f"#!/bin/sh\necho '{said_of}' >&2\necho >>{calls}\nexit {number}\n")
+            os.chmod(self.program, 0o700)
+            with open(calls, "w", encoding="utf-8"):
+                pass
+            process = self.supervised()
+            self.until(lambda: os.path.getsize(calls) > 3)
+            status, said = self.ended(process)
+            self.assertEqual(status, 0)
+            text = said_of if number == 2 else f"the server ended with status {number}"
+            self.assertEqual(said.count(f"codenav supervise: {text}\n"), 1, said)
+            self.assertEqual([said.count(one) for one in ("one", "two")], [number == 1] * 2)
+            self.assertEqual(self.kept(), before)
+        self.program = own
+        database = database_at(self.folder, "a")
+        with open(f"{database}-wal", "ab") as file:
+            file.write(b"!")
+        self.refuses(f"{database}: changed since its server ended")
+
+    def test_a_program_that_may_not_be_started(self) -> None:
+        """It's tried again, and what's known of the database stays known."""
+        self.ended(self.service())
+        before, own = self.kept(), self.program
+        self.program = f"{self.base}/unknown"
+        with open(self.program, "wb") as script:
+            script.write(b"\0" * 100)
+        os.chmod(self.program, 0o700)
+        process = self.supervised()
+        self.says(process, f"{self.program}: Exec format error")
+        self.assertEqual(self.ended(process), (0, ""))
+        self.assertEqual(self.kept(), before)
+        process = self.supervised()
+        self.says(process, f"{self.program}: Exec format error")
+        os.unlink(self.program)
+        os.symlink(own, self.program)
+        self.until(self.answers)
+
     def test_refusals_that_pass(self) -> None:
         """A port or a database that another program has is tried again, and is served when it's
         free."""
@@ -278,7 +347,7 @@ class Starts(OnService):
             assert holder.stdout is not None
             holder.stdout.readline()
             waiting = self.supervised()
-            self.says(waiting, is_said)
+            self.assertEqual(len(self.says(waiting, is_said)), 1)
             time.sleep(2.5)
             self.assertIsNone(waiting.poll())
             holder.terminate()
@@ -287,7 +356,7 @@ class Starts(OnService):
             self.assertEqual(self.hover(), b'{"contents":"one"}')
             status, said = self.ended(waiting)
             self.assertEqual(status, 0, said)
-            self.assertLessEqual(said.count(": codenav: "), 1, "it's said once")
+            self.assertNotIn(is_said, said, "it's said once")
 
     def test_a_second_service(self) -> None:
         """It waits until the first one has ended, and leaves what's known of that as it is."""
@@ -301,8 +370,8 @@ class Starts(OnService):
         self.until(lambda: getattr(serving_of(self.folder), "supervisor", 0) == second.pid)
         self.until(self.answers)
 
-    def says(self, process: "subprocess.Popen[str]", text: str) -> None:
-        """Waits until a line of a service has a text."""
+    def says(self, process: "subprocess.Popen[str]", text: str) -> list[str]:
+        """The lines of a service until one has a text."""
         assert process.stderr is not None
         late = threading.Timer(SECONDS, process.kill)
         late.start()
@@ -311,6 +380,7 @@ class Starts(OnService):
             lines.append(process.stderr.readline())
             self.assertNotEqual(lines[-1], "", lines)
         late.cancel()
+        return lines
 
 
 class Sides(OnService):

@@ -35,13 +35,14 @@ def keep(database: str) -> None:
     put_whole(database + ENDING, text_of(database), database)
 
 
-def forget(database: str) -> None:
-    """Removes the digest, since the database changes from now on."""
+def forget(database: str) -> bool:
+    """Removes the digest, since the database changes from now on; answers whether one was kept."""
     try:
         os.unlink(database + ENDING)
     except FileNotFoundError:
-        return
+        return False
     synced(os.path.dirname(database))
+    return True
 
 
 def difference(database: str) -> Optional[str]:

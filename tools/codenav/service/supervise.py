@@ -27,13 +27,14 @@ from codenav.service.folder import (
 )
 from codenav.service.front import NoFront, told
 from codenav.service.hung import Watch
+from codenav.service.locks import holder_of
 from codenav.service.measures import write
 from codenav.service.refusals import Refusal, refusal_by, refusal_of
 from codenav.service.systemd import DAY, longest, may_take, say
 from codenav.service.turning import How, NotTurned, Turn
 
 LASTING = 78
-PAUSE, LONG_PAUSE = 0.2, 1.0
+PAUSE, LONG_PAUSE, LOCK_WAIT = 0.2, 5.0, 1.0
 TICK = 0.05
 LOOK = 1.0
 SPENT = 0.9
@@ -48,9 +49,10 @@ class Supervisor:
 
     def __init__(self, folder: str, how: How, front: Optional[str], shows: Shows) -> None:
         self.folder, self.how, self.front, self.shows = os.path.abspath(folder), how, front, shows
-        self.stops = self.turns_now = False
+        self.stops = self.turns_now = self.was_kept = False
         self.side, self.turns, self.tries, self.last, self.refused = "", 0, 0, "", ""
         self.asked_before, self.looked, self.starts, self.measured = -1, 0.0, 0, 0.0
+        self.pause = PAUSE
 
     def stop(self, *_: object) -> None:
         """Is called by SIGTERM."""
@@ -70,7 +72,8 @@ class Supervisor:
             refusal = self.finished(self.watched(found)) if isinstance(found, Running) else found
             if refusal is not None and not self.may_wait(refusal):
                 return LASTING
-            self.rest(LONG_PAUSE if self.refused else PAUSE)
+            self.rest(self.pause)
+            self.pause = min(2 * self.pause, LONG_PAUSE)
         return 0
 
     def rest(self, seconds: float) -> None:
@@ -83,7 +86,7 @@ class Supervisor:
     def started(self) -> Union[Running, Refusal]:
         """A server over the database in use, where that's as it was left, or why there's none."""
         try:
-            with locked(self.folder, LONG_PAUSE):
+            with locked(self.folder, LOCK_WAIT):
                 known = serving_of(self.folder)
                 if known is not None and known.supervisor != os.getpid():
                     text = f"{self.folder} is served by process {known.supervisor}"
@@ -93,8 +96,12 @@ class Supervisor:
                 os.makedirs(os.path.dirname(database), mode=0o700, exist_ok=True)
                 if changed := digests.difference(database):
                     return Refusal(changed, False)
-                digests.forget(database)
-                server = self.how.launched(self.folder, self.side)
+                self.was_kept = digests.forget(database)
+                try:
+                    server = self.how.launched(self.folder, self.side)
+                except OSError:
+                    self.keep(database)
+                    raise
                 self.starts += 1
                 self.noted(server)
                 return server
@@ -117,7 +124,8 @@ class Supervisor:
         begin, watch = time.monotonic(), None
         while server.is_there() and not self.stops:
             if watch is None and server.listens():
-                watch, self.refused = Watch(self.folder, longest() / 3), ""
+                watch = Watch(self.folder, longest() / 3)
+                self.refused, self.pause = "", PAUSE
                 said = f"serves {server.database} after {time.monotonic() - begin:.1f} s"
                 self.shows.warn(said)
                 say("READY=1", f"STATUS={said}")
@@ -194,24 +202,33 @@ class Supervisor:
 
     def finished(self, server: Running) -> Optional[Refusal]:
         """Ends a server that's still there, and keeps the digest of its database. Answers why it
-        was refused, where it was."""
+        was refused, where it was, or that it ended before it listened."""
         has_served = server.listens()
         server.end()
-        self.asked_before, said = -1, server.last_words()
-        refusal = None
-        if server.process.returncode == 2:
-            refusal = refusal_of(said.rpartition("\n")[2], server.database)
+        self.asked_before, lines = -1, server.last_words().splitlines()
+        status, refusal = server.process.returncode, None
+        ended = f"the server ended with status {status}"
+        if status == 2:
+            refusal = refusal_of(lines.pop() if lines else "", server.database)
+        elif not has_served:
+            refusal = Refusal(ended, True)
         if refusal is None or refusal.text != self.refused:
-            for line in said.splitlines():
+            for line in lines:
                 self.shows.warn(line)
-        if has_served:
-            try:
-                digests.keep(server.database)
-            except OSError as fault:
-                self.shows.warn(f"no digest of {server.database} is kept: {fault.strerror}")
+        self.was_kept |= has_served
+        self.keep(server.database)
         if refusal is None:
-            self.shows.warn(f"the server ended with status {server.process.returncode}")
+            self.shows.warn(ended)
         return refusal
+
+    def keep(self, database: str) -> None:
+        """Keeps the digest of a database when its server has ended: of one that didn't listen where
+        one was kept before, and nobody else may write."""
+        try:
+            if self.was_kept and holder_of(database) is None:
+                digests.keep(database)
+        except OSError as fault:
+            self.shows.warn(f"no digest of {database} is kept: {fault.strerror}")
 
     def may_wait(self, refusal: Refusal) -> bool:
         """Says once why no server can be started; answers whether another try may help, and not a
