@@ -333,6 +333,32 @@ class Starts(OnService):
         os.symlink(own, self.program)
         self.until(self.answers)
 
+    def test_files_that_may_not_be_read(self) -> None:
+        """They end the service by one line, whichever of its files they are."""
+        self.ended(self.service())
+        user = ("setpriv", f"--reuid={NOBODY}", f"--regid={NOBODY}", "--clear-groups")
+        by = user if os.getuid() == 0 else ()
+        os.chmod(self.base, 0o755)
+        self.program = shutil.copy(self.program, f"{self.base}/program")
+        for at, _, names in os.walk(self.folder):
+            for path in [at, *(os.path.join(at, name) for name in names)]:
+                os.chown(path, *((NOBODY, NOBODY) if by else (-1, -1)))
+        owner = os.stat(self.folder).st_uid
+        before = self.kept()
+        files = "", "/a", "/a/index.db", "/a/index.db-wal", "/a/index.db.digest", "/lock", "/side"
+        for path in (f"{self.folder}{name}" for name in files):
+            mode = os.stat(path).st_mode
+            for less in 0o000, 0o200, 0o400:
+                if less == 0o400 and path.endswith(("/side", ".digest")):
+                    continue
+                os.chmod(path, less)
+                given = ["--program", self.program, "--port", str(self.port), self.folder]
+                status, said = self.called("supervise", *given, by=by)
+                os.chmod(path, mode)
+                text = f"codenav supervise: {path} may not be read and written: its owner is"
+                self.assertEqual((status, said), (78, f"{text} {owner}\n"))
+                self.assertEqual(self.kept(), before)
+
     def test_refusals_that_pass(self) -> None:
         """A port or a database that another program has is tried again, and is served when it's
         free."""
