@@ -173,7 +173,8 @@ class Asking:
         """What keeps the places of answers."""
 
         def take(word: Place, result: Any) -> None:
-            places = sorted(set(map(self.lines.unmarked, places_in(result))))
+            name, own = self.lines.text(word), map(self.lines.unmarked, places_in(result))
+            places = sorted({self.lines.named(place, name) for place in own})
             if places:
                 found[word] = places
 

@@ -10,6 +10,7 @@ from codenav.faults import BadCall
 from codenav.index import settings
 from codenav.index.again import Depends, by_includes, by_leads
 from codenav.index.answers import Answers
+from codenav.index.building import DATABASES, FLAGS, Building
 from codenav.index.given import Document, Given
 from codenav.index.kept import Kept
 from codenav.index.packages import (
@@ -27,6 +28,14 @@ DIAGNOSTICS, HIGHLIGHTS = "textDocument/publishDiagnostics", "$ccls/publishSeman
 STATUS = "experimental/serverStatus"
 """By what servers say that they have read a document, or all."""
 HEADERS = (".h", ".hh", ".hpp", ".hxx", "")
+GO_VARIABLES = (
+    "GOVERSION GOROOT GOOS GOARCH GOAMD64 GOARM GOFLAGS GOWORK GO111MODULE GOPATH GOMODCACHE GOPROXY "
+    "GOEXPERIMENT CGO_ENABLED CGO_CFLAGS CGO_CPPFLAGS CC"
+)
+RUST_FILES = (
+    *("Cargo.toml", "Cargo.lock", "rust-project.json", ".cargo/config.toml", ".cargo/config"),
+    *("rust-toolchain.toml", "rust-toolchain", "build.rs", "rust-analyzer.toml"),
+)
 
 
 class ServerKind(NamedTuple):
@@ -65,8 +74,8 @@ class Language(NamedTuple):
     """A language: the identifiers by which the protocol knows it, by the suffixes of its files; what
     answers of it, the first that's installed; what is at the top of a folder where it's built, and
     what is missed where none of that is there; the indexer that comes before these; its packages'
-    manager, and the package of a folder; what depends on a file that changed; and whether a type
-    implements another by what it has alone.
+    manager, and the package of a folder; what depends on a file that changed; whether a type
+    implements another by what it has alone; and what says to its servers how files are built.
     """
 
     name: str
@@ -79,6 +88,7 @@ class Language(NamedTuple):
     package_of: Callable[[str], Optional[Package]]
     depends: Depends = by_leads
     is_structural: bool = False
+    building: Building = Building()
 
 
 LANGUAGES = (
@@ -95,12 +105,17 @@ LANGUAGES = (
             ),
             ServerKind("ccls", "ccls", settings.ccls, HIGHLIGHTS),
         ),
-        ("compile_commands.json", "compile_flags.txt", "build/compile_commands.json"),
+        (*DATABASES, FLAGS),
         "no compile_commands.json (`bear -- make` writes it): the server guesses how files are compiled",
         "scip-clang",
         "pkg-config",
         c_package,
         by_includes,
+        building=Building(
+            (*DATABASES, FLAGS, ".clangd", ".clang-tidy", ".ccls"),
+            (("XDG_CONFIG_HOME", "~/.config", "clangd/config.yaml"),),
+            ("CPATH", "C_INCLUDE_PATH", "CPLUS_INCLUDE_PATH", "CLANGD_"),
+        ),
     ),
     Language(
         "Go",
@@ -112,6 +127,10 @@ LANGUAGES = (
         "gomod",
         go_package,
         is_structural=True,
+        building=Building(
+            ("go.mod", "go.sum", "go.work", "go.work.sum", "vendor/modules.txt"),
+            lines=(("go", "env", *GO_VARIABLES.split()),),
+        ),
     ),
     Language(
         "Python",
@@ -147,6 +166,12 @@ LANGUAGES = (
         "rust-analyzer",
         "cargo",
         crate_in,
+        building=Building(
+            RUST_FILES,
+            tuple(("CARGO_HOME", "~/.cargo", name) for name in ("config.toml", "config")),
+            ("CARGO", "RUST"),
+            (("rustc", "-vV"), ("rustc", "--print", "sysroot")),
+        ),
     ),
     Language(
         "TypeScript and JavaScript",

@@ -44,7 +44,9 @@ class Server:
         self.settings = kind.settings_of(given.folder, given.documents)
         program = shutil.which(shlex.split(kind.line)[0]) or ""
         how = kind.line, self.settings, sorted(self.identifiers), sorted(given.on_server)
-        key = key_of(given.folder, program, language.manifests, *how)
+        built, paths = language.building, [path_of(uri, []) or "" for uri in self.documents]
+        files = built.files(given.folder, paths, kind.line)
+        key = key_of(given.folder, program, files, *how, built.around(given.folder))
         self.before = kept if kept.key == key else Kept(key)
         self.after = Kept(key)
         digests = {uri: digest_of(one.text) for uri, one in self.documents.items()}
