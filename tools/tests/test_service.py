@@ -8,6 +8,7 @@ import signal
 import socket
 import sqlite3
 import subprocess
+import sys
 import tempfile
 import threading
 import time
@@ -28,7 +29,7 @@ from codenav.service.locks import UNSEEN
 from codenav.service.refusals import Refusal, refusal_by
 from codenav.service.standing import state_of
 from tests.fronts import Front, fronted, lacking
-from tests.servers import command, free_row, program
+from tests.servers import TOP, command, free_row, program
 from tests.test_fronts import HOVER
 from tests.test_uploads import DUMP
 
@@ -933,8 +934,11 @@ class Copies(OnService):
         shutil.rmtree(self.copies, ignore_errors=True)
         os.unlink(f"{self.folder}/lock")
         user = ("setpriv", f"--reuid={NOBODY}", f"--regid={NOBODY}", "--clear-groups")
-        # where the service's user may call it
+        # where the service's user may call them
         self.program = shutil.copy(self.program, f"{self.base}/program")
+        tools = shutil.copytree(os.path.join(TOP, "tools", "codenav"), f"{self.base}/tools/codenav")
+        own = [sys.executable, "-B", f"{tools}/__main__.py"]
+        self.enterContext(mock.patch("tests.test_service.command", lambda tool: [*own, tool]))
         for by in (), user, user:
             status, said = self.backup("--keep", "2", by=by)
             self.assertEqual((status, said.count("Permission denied")), (0, 0), said)
