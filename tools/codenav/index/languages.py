@@ -21,6 +21,7 @@ from codenav.index.packages import (
     pip_package,
 )
 from codenav.index.python import line as python
+from codenav.index.surfaces import go_surface
 from codenav.index.typescript import checker
 
 DIAGNOSTICS, HIGHLIGHTS = "textDocument/publishDiagnostics", "$ccls/publishSemanticHighlight"
@@ -65,8 +66,8 @@ class Language(NamedTuple):
     """A language: the identifiers by which the protocol knows it, by the suffixes of its files; what
     answers of it, the first that's installed; what is at the top of a folder where it's built, and
     what is missed where none of that is there; the indexer that comes before these; its packages'
-    manager, and the package of a folder; what depends on a file that changed; and whether a type
-    implements another by what it has alone.
+    manager, and the package of a folder; what depends on a file that changed; whether a type
+    implements another by what it has alone; and what of a text other files hold by.
     """
 
     name: str
@@ -79,6 +80,7 @@ class Language(NamedTuple):
     package_of: Callable[[str], Optional[Package]]
     depends: Depends = by_leads
     is_structural: bool = False
+    surface: Callable[[str], str] = str
 
 
 LANGUAGES = (
@@ -112,6 +114,7 @@ LANGUAGES = (
         "gomod",
         go_package,
         is_structural=True,
+        surface=go_surface,
     ),
     Language(
         "Python",
