@@ -10,8 +10,9 @@ from typing import Callable
 from unittest import mock
 
 from codenav.index.again import declared
-from codenav.index.answers import Name
+from codenav.index.answers import Name, Place
 from codenav.index.kept import Kept, Known, read
+from codenav.index.surfaces import go_surface, moved_names, moved_place
 from codenav.index.typescript import checker
 from tests.test_index import OnFolder
 
@@ -92,6 +93,56 @@ class Declared(unittest.TestCase):
                     )
                     names = {("file:///a", 8, 2): after} if after else {}
                     self.assertEqual(declared(names, kept, ["file:///a"]), (words, differs))
+
+
+class Surfaces(unittest.TestCase):
+    def test_go(self) -> None:
+        """Texts that differ in bodies alone have one surface, and no others have."""
+        one = "package a\n\n// F is.\nfunc F(x int) (y interface{ M() }) { return 1 }\n\ntype T struct{ a int }\n"
+        rows = {
+            ("return 1", "return 2"): True,
+            ("return 1", "\n\treturn '{' + \"}\" + `}\n}` /* } */ // }\n"): True,
+            ("return 1", "switch x.(type) {}"): True,
+            ("return 1", "type t struct{ T }"): False,
+            ("return 1 }", ""): False,
+            ("return 1", "return '"): False,
+            ("return 1", "return `"): False,
+            ("{ return 1 }", ""): False,
+            ("F is", "F was"): False,
+            ("M()", "N()"): False,
+            ("(y", "(z"): False,
+            ("a int", "b int"): False,
+            ("func F(x int)", "var F = func(x int)"): False,
+            ("package a", "package a\n"): False,
+        }
+        for (old, new), wanted in rows.items():
+            with self.subTest(old=old, new=new):
+                self.assertIn(old, one)
+                is_same = go_surface(one) == go_surface(one.replace(old, new))
+                self.assertEqual(is_same, wanted)
+        for start in ("var s = `\nfunc x() {\n`\n", "var f = func() int { return %d }\n"):
+            texts = {go_surface(one + start.replace("%d", n) + f"type U{n} int\n") for n in "12"}
+            self.assertEqual(len(texts), 2)
+
+    def test_moved(self) -> None:
+        """A place is known to be where its name is now, or above all that may have moved."""
+
+        def name(text: str, lines: int) -> Name:
+            return Name((), text, 12, (lines, 1))
+
+        def place(line: int, end_line: int) -> Place:
+            return Place("u", line, 5, end_line, 6)
+
+        before = {("u", 2, 5): name("f", 0), ("u", 4, 5): name("g", 0)}
+        after = {("u", 2, 5): name("f", 2), ("u", 6, 5): name("g", 0)}
+        moved = moved_names(before, after)
+        assert moved is not None
+        rows = {(1, 1): 1, (2, 2): 2, (3, 3): None, (4, 4): 6, (4, 5): None, (9, 9): None}
+        for (line, end_line), wanted in rows.items():
+            found = moved_place(place(line, end_line), moved)
+            self.assertEqual(found, None if wanted is None else place(wanted, wanted))
+        self.assertIsNone(moved_names(before, {("u", 2, 5): name("f", 0)}))
+        self.assertIsNone(moved_names(before, {**after, ("u", 6, 5): name("h", 0)}))
 
 
 class StoodIn(Again):
@@ -208,28 +259,37 @@ class OfC(Again):
         self.edit(edit_c, range(2), 6)
 
 
+BODIES = (
+    "{ return 1 }",
+    "{\n\tx := 1\n\treturn x\n}",
+    "{\n\ttype own struct{ A }\n\treturn own{}.Side\n}",
+    "{\n\tvar x interface{} = `}\n}`\n\tswitch x.(type) {\n\t}\n\treturn '{' // {\n}",
+    "{ return none }",
+)
+"""Bodies of a function of Go: two of them with types of their own, and one that isn't right."""
+
+
 def edit_go(chance: random.Random, tree: Tree) -> None:
     """Has a program of Go differ a little: what it's made of in a package that others use over a
     third."""
-    side = chance.choice(["Side", "Other"])
-    kind = chance.randrange(5)
+    kind, made = chance.randrange(8), chance.choice(["A", "B"])
+    text = tree["a/a.go"]
     if kind == 0:
-        made = chance.choice(["A", "B"])
-        tree[
-            "b/b.go"
-        ] = f'package b\n\nimport "m/a"\n\nfunc Make() *a.{made} {{ return &a.{made}{{}} }}\n'
+        tree["b/b.go"] = OfGo.files["b/b.go"].replace("a.A", f"a.{made}")
     elif kind == 1:
-        tree[
-            "a/more.go"
-        ] = f"package a\n\ntype Runner interface {{\n\t{chance.choice(['Run', 'Stop'])}() int\n}}\n"
+        name = chance.choice(["Run", "Stop"])
+        tree["a/more.go"] = OfGo.files["a/more.go"].replace("Run", name)
     elif kind == 2:
-        tree["a/a.go"] = OfGo.files["a/a.go"].replace("Side", side)
+        tree["a/a.go"] = text.replace(*chance.choice([("Side", "Other"), ("Other", "Side")]))
     elif kind == 3:
-        tree[
-            "d/len.go"
-        ] = f"package d\n\nfunc {chance.choice(['len', 'two'])}(s string) int {{ return 2 }}\n"
-    else:
+        name = chance.choice(["len", "two"])
+        tree["d/len.go"] = f"package d\n\nfunc {name}(s string) int {{ return 2 }}\n"
+    elif kind == 4:
         tree.pop("d/len.go", None)
+    else:
+        head, body = f"func (*{made}) Run() int ", chance.choice(BODIES)
+        before, _, after = text.partition(head)
+        tree["a/a.go"] = before + head + body + "\n\n" + after[after.index("\n\n") + 2 :]
 
 
 @unittest.skipUnless(shutil.which("gopls") and shutil.which("go"), "gopls isn't installed")
@@ -237,7 +297,8 @@ class OfGo(OfC):
     files = {
         "go.mod": "module m\n\ngo 1.19\n",
         "a/a.go": "package a\n\ntype Base struct{ Side int }\n\ntype A struct{ Base }\n\n"
-        "func (*A) Run() int { return 1 }\n\ntype B struct{ Base }\n\nfunc (*B) Run() int { return 2 }\n",
+        "func (*A) Run() int { return 1 }\n\ntype B struct{ Base }\n\nfunc (*B) Run() int { return 2 }\n\n"
+        "type C struct{ B }\n",
         "a/more.go": "package a\n\ntype Runner interface {\n\tRun() int\n}\n",
         "b/b.go": 'package b\n\nimport "m/a"\n\nfunc Make() *a.A { return &a.A{} }\n',
         "c/c.go": 'package c\n\nimport "m/b"\n\nvar Made = b.Make()\n',

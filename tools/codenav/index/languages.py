@@ -22,6 +22,7 @@ from codenav.index.packages import (
     pip_package,
 )
 from codenav.index.python import line as python
+from codenav.index.surfaces import go_surface
 from codenav.index.typescript import checker
 
 DIAGNOSTICS, HIGHLIGHTS = "textDocument/publishDiagnostics", "$ccls/publishSemanticHighlight"
@@ -75,7 +76,8 @@ class Language(NamedTuple):
     answers of it, the first that's installed; what is at the top of a folder where it's built, and
     what is missed where none of that is there; the indexer that comes before these; its packages'
     manager, and the package of a folder; what depends on a file that changed; whether a type
-    implements another by what it has alone; and what says to its servers how files are built.
+    implements another by what it has alone; what says to its servers how files are built; and what
+    of a text other files hold by.
     """
 
     name: str
@@ -89,6 +91,7 @@ class Language(NamedTuple):
     depends: Depends = by_leads
     is_structural: bool = False
     building: Building = Building()
+    surface: Callable[[str], str] = str
 
 
 LANGUAGES = (
@@ -131,6 +134,7 @@ LANGUAGES = (
             ("go.mod", "go.sum", "go.work", "go.work.sum", "vendor/modules.txt"),
             lines=(("go", "env", *GO_VARIABLES.split()),),
         ),
+        surface=go_surface,
     ),
     Language(
         "Python",
