@@ -18,7 +18,8 @@ import time
 from dataclasses import dataclass
 from typing import IO, Callable, Sequence, Union
 
-from refused import built, refusing
+from refused import LIBRARY, refusing
+from refusing import built
 from watched import TOP, Lines, NotStarted, Server, Wrong, started
 
 from codenav.program import free_port
@@ -681,7 +682,7 @@ def main() -> int:
     path = os.path.realpath(options.parse_args().program)
     faults: list[str] = []
     with tempfile.TemporaryDirectory() as folder:
-        program = Program(path, built(folder))
+        program = Program(path, built(folder, LIBRARY))
         slow = [
             threading.Thread(target=slow_client, args=(program, *row, faults)) for row in CLIENTS
         ]

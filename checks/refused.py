@@ -18,6 +18,7 @@ from dataclasses import dataclass
 from itertools import count
 from pathlib import Path
 
+from refusing import built
 from watched import Lines
 
 # What a program is started with that has one of its requests for memory refused: that of the number
@@ -102,16 +103,6 @@ ASKED: list[Request] = [
     ("DELETE /projects/lib?key=d1", ""),
     ("GET /projects", ""),
 ] * 2
-
-
-def built(folder: str) -> str:
-    """The library, built in a folder by a C compiler."""
-    source, library = Path(folder, "refuse.c"), f"{folder}/refuse.so"
-    source.write_text(LIBRARY, encoding="ascii")
-    compiler = os.environ.get("CC", "cc")
-    words = [compiler, "-O2", "-shared", "-fPIC", str(source), "-o", library, "-ldl"]
-    subprocess.run(words, check=True)
-    return library
 
 
 def refusing(library: str, number: int) -> dict[str, str]:
@@ -222,7 +213,7 @@ def main() -> None:
     given = options.parse_args()
     program = os.path.realpath(given.program)
     with tempfile.TemporaryDirectory() as folder:
-        library = built(folder)
+        library = built(folder, LIBRARY)
         if given.check:
             check(program, library, given.check)
         else:

@@ -167,10 +167,10 @@ run()
 """
 
 
-def built(folder: str) -> str:
-    """The library, built in a folder by a C compiler."""
+def built(folder: str, text: str = LIBRARY) -> str:
+    """A library of a text in C, built in a folder."""
     source, library = Path(folder, "refuse.c"), f"{folder}/refuse.so"
-    source.write_text(LIBRARY, encoding="ascii")
+    source.write_text(text, encoding="ascii")
     compiler = os.environ.get("CC", "cc")
     words = [compiler, "-O2", "-shared", "-fPIC", str(source), "-o", library, "-ldl"]
     subprocess.run(words, check=True)

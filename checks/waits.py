@@ -169,8 +169,9 @@ def filled(program: str, folder: str, projects: int) -> int:
 
 
 def reads(seen: Seen) -> float:
-    """The longest wait of those that don't write."""
-    return max(max(taken) for kind, taken in seen.taken.items() if kind not in ("put", "remove"))
+    """The longest wait of those that don't write; 0 where none had its answer yet."""
+    every = [max(own) for kind, own in seen.taken.items() if kind not in ("put", "remove")]
+    return max(every, default=0.0)
 
 
 def turn(folder: str, count: int) -> None:

@@ -22,6 +22,7 @@ from unittest import mock
 from codenav.cli.index import INDEX
 from codenav.cli.publish import PUBLISH
 from codenav.client.projects import fresh_key, put
+from codenav.index.process import need_room
 from codenav.texts.places import uri_of
 from tests.servers import TOP, OnServer, command
 from tests.test_set_service import asked_at
@@ -251,6 +252,12 @@ class Failing(OnFolder):
                 status, said = self.stood_in(FAULT="end * * 2")
                 self.assertEqual((status, self.body(), said.count("\n")), (2, whole, 0), said)
                 self.assertEqual(said, f"{tempfile.gettempdir()}: No space left on device")
+        kept = os.path.join(self.home, "kept")
+        os.makedirs(os.path.join(kept, "own"))
+        with mock.patch("os.posix_fallocate", side_effect=full):
+            with self.assertRaises(OSError) as raised:
+                need_room(os.path.join(kept, "own"))
+        self.assertEqual(raised.exception.filename, self.home)
 
     def test_nowhere_to_write(self) -> None:
         """What can't be written is found before anything is asked."""
@@ -730,6 +737,17 @@ class OddBytes(OnFolder):
                         "definition", {"uri": uri, "line": 1, "character": 11}, "places"
                     )
                     self.assertEqual([one["uri"] for one in found], [uri])
+
+    def test_printed(self) -> None:
+        """What isn't UTF-8 of a name is a mark where it's said, of what is left out and of a fault."""
+        self.write("bad\udcff\udcfe.py", "def f(:\n")
+        state = os.path.join(self.home, "state\udcff", "none")
+        rows = {"bad\ufffd\ufffd.py, line 1": list[str](), "state\ufffd/none": ["--state", state]}
+        for wanted, words in rows.items():
+            with self.subTest(wanted=wanted):
+                line = [*command("index"), *words, self.folder, self.out]
+                said = subprocess.run(line, stderr=subprocess.PIPE, check=False).stderr.decode()
+                self.assertIn(wanted, said)
 
     @unittest.skipUnless(shutil.which("clangd"), "clangd isn't installed")
     def test_c(self) -> None:

@@ -2,7 +2,6 @@
 revision, and what is said where there is none."""
 
 import os
-import time
 from typing import Any, Optional
 from unittest import mock
 
@@ -13,7 +12,7 @@ from codenav.texts.places import Place, uri_of
 from codenav.texts.revisions import Revision
 from codenav.texts.sources import sources_of
 from codenav.texts.today import IndexPlace, NotThere, Today
-from tests.repository import InRepository
+from tests.repository import InRepository, git_in
 
 TEXT = "fn one() {}\nfn two() {\n    one();\n}\n"
 NEW = "use x;\n\n" + TEXT.replace("    one();", "    one(); // again")
@@ -107,6 +106,13 @@ class Revisions(InRepository):
             f"^{shallow}: a shallow clone without {commit}: `git fetch --depth 1 origin {commit}` gets it$",
         ):
             self.revision(commit, shallow)
+        with self.assertRaisesRegex(
+            BadCall,
+            f"^{shallow}: a shallow clone without HEAD~1: `git fetch --unshallow --tags` gets all that there is$",
+        ):
+            self.revision("HEAD~1", shallow)
+        git_in(shallow, "fetch", "-q", "--unshallow", "--tags")
+        self.revision("HEAD~1", shallow).text("a")
         os.mkdir(plain)
         self.assertEqual(top_of(plain), "")
 
@@ -146,15 +152,15 @@ class Revisions(InRepository):
         self.write("a", "x\n")
         self.commit()
         revision = self.revision()
-        path = self.write("git", "#!/bin/sh\nexec sleep 60\n", self.home)
+        started = os.path.join(self.home, "started")
+        path = self.write("git", f"#!/bin/sh\necho >>{started}\nexec sleep 60\n", self.home)
         os.chmod(path, 0o755)
-        self.enterContext(mock.patch.object(revisions, "SECONDS", 0.5))
+        self.enterContext(mock.patch.object(revisions, "SECONDS", 2.0))
         with mock.patch.dict(os.environ, {"PATH": f"{self.home}:{os.environ['PATH']}"}):
-            started = time.monotonic()
             for _ in range(50):
                 with self.assertRaisesRegex(BadCall, f"^{self.top}: git gives no answer$"):
                     revision.text("a")
-            self.assertLess(time.monotonic() - started, 5)
+            self.assertEqual(os.path.getsize(started), 1)
             with self.assertRaisesRegex(BadCall, f"^{self.top}: git gives no answer$"):
                 top_of(self.top)
 

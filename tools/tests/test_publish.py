@@ -607,6 +607,8 @@ class Publish(OnCheckout):
             )
             self.assertEqual(status, 0, stages)
             self.assertRegex(printed[0], f"^{database}: {said}$")
+            if words[-1] == "other":
+                self.assertIn(f" {printed[0].split()[2]} tags", stages)
             with Program(self.program).serve(database) as server:
                 self.assertEqual(len(listed(server.url)), projects)
                 at = {"uri": "file:///src/tr/crate/src/lib.rs", "line": 17, "character": 11}

@@ -22,6 +22,7 @@ from codenav.service import digests
 from codenav.service.copies import NAME, copied_now, put
 from codenav.service.digests import files_of
 from codenav.service.folder import Serving, database_at, locked, serving_of, side_of, use
+from codenav.service.front import told
 from codenav.service.hung import Watch, worked
 from codenav.service.locks import UNSEEN
 from codenav.service.refusals import Refusal, refusal_by
@@ -923,10 +924,10 @@ class Turns(OnService):
             status, said = self.called("turn", self.folder)
             self.assertEqual((status, said), (1, f"no turn: {self.folder}/b: Not a directory\n"))
         self.assertEqual((self.known().server, self.known().side), (server, "a"))
-        begin = time.monotonic()
+        state = told(self.local, "/state")
+        self.assertEqual(state and state.held, False)
         path = "/projects/app/lsif?key=k"
         self.assertEqual(self.front.ask("PUT", path, (DUMP % "one").encode())[0], 200)
-        self.assertLess(time.monotonic() - begin, 5)
         os.unlink(f"{self.folder}/b")
         self.assertEqual(self.called("turn", self.folder)[0], 0)
         self.assertEqual(self.known().side, "b")

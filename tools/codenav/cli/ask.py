@@ -81,7 +81,7 @@ def tags_of(call: AskCall, settings: Settings, project: Project) -> list[Tag]:
     tags = index.names(parameters, call.all_projects)
     if not tags and not call.all_projects and not has_dump(index) and not has_tags(index):
         raise NoReply(
-            f"{settings.project} isn't known to {settings.server}: it has no dump, and no tags that `codenav publish` made"
+            f"{settings.project} has neither a dump at {settings.server} nor tags that `codenav publish` made: it may not be there"
         )
     return tags
 

@@ -11,6 +11,7 @@ from codenav.index import settings
 from codenav.index.again import Depends, by_includes, by_leads
 from codenav.index.answers import Answers
 from codenav.index.given import Document, Given
+from codenav.index.kept import Kept
 from codenav.index.packages import (
     Package,
     c_package,
@@ -49,12 +50,12 @@ class ServerKind(NamedTuple):
 
 class Pass(NamedTuple):
     """What answers of all documents of a language at once: how it's called, Debian's packages of it,
-    what of it isn't installed, and its answers of a folder."""
+    what of it isn't installed, and its answers of a folder, with what is kept of them."""
 
     line: str
     package: str
     lacks: Callable[[], str]
-    answers: Callable[[Given], Answers]
+    answers: Callable[[Given, Kept], tuple[Answers, Kept]]
 
 
 Way = Union[ServerKind, Pass]

@@ -2,6 +2,7 @@
 no monitor of files, and fetches nothing of a partial clone."""
 
 import os
+import re
 import shutil
 import subprocess
 import tempfile
@@ -11,6 +12,7 @@ from typing import Iterator, Mapping, Optional
 from codenav.faults import BadCall
 
 OTHERS = "GIT_ALTERNATE_OBJECT_DIRECTORIES"
+COMMIT = re.compile(r"[0-9a-f]{40}|[0-9a-f]{64}")
 SECONDS = 10.0
 """For so long git is waited for."""
 NO_ANSWER = "{}: git gives no answer"
@@ -119,5 +121,8 @@ def copied_index(top: str) -> Iterator[dict[str, str]]:
 def no_revision(top: str, revision: str) -> str:
     """Why a revision isn't in a repository, in one line."""
     if line_of(git(top, "rev-parse", "--is-shallow-repository")) == "true":
-        return f"{top}: a shallow clone without {revision}: `git fetch --depth 1 origin {revision}` gets it"
+        how = f"`git fetch --depth 1 origin {revision}` gets it"
+        if COMMIT.fullmatch(revision) is None:
+            how = "`git fetch --unshallow --tags` gets all that there is"
+        return f"{top}: a shallow clone without {revision}: {how}"
     return f"{top}: git knows no revision {revision}"

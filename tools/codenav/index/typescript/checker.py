@@ -15,6 +15,7 @@ from codenav.faults import BadCall
 from codenav.index.answers import Answers, Place
 from codenav.index.given import Given
 from codenav.index.indexers import begun, tail_of
+from codenav.index.kept import Kept
 from codenav.index.packages import Package
 from codenav.texts.places import path_of, uri_of
 
@@ -142,6 +143,6 @@ class Checked:
         found.implementations = {base: sorted(own) for base, own in over.items()}
 
 
-def answers(given: Given) -> Answers:
-    """What the checker finds of a folder's documents. Raises BadCall."""
-    return Checked(given).answers()
+def answers(given: Given, _: Kept) -> tuple[Answers, Kept]:
+    """What the checker finds of a folder's documents, of which nothing is kept. Raises BadCall."""
+    return Checked(given).answers(), Kept()
