@@ -14,6 +14,7 @@ from urllib.parse import urlencode
 
 from codenav.browse import searched
 from codenav.browse.changes import aligned, changes
+from codenav.browse.folder import Folder
 from codenav.asking.outlines import ends_of
 from codenav.settings.found import Settings
 from codenav.texts.moved.matching import ShortestEdit
@@ -208,6 +209,40 @@ class OfHistory(Served, InRepository):
         self.assertNotIn("<h3>Texts", self.page("/search"))
         with mock.patch.object(searched, "MOST_FOUND", 2):
             self.assertIn("the first 2 lines", self.page("/search?text=one"))
+
+    def test_the_texts_of_all_files_that_are_listed(self) -> None:
+        """Of those that `.gitignore` names too, where git has them, and of checkouts inside; in a
+        folder of a checkout, in one that git leaves out, and in one that is no checkout."""
+        for top in self.top, os.path.join(self.top, "nested"), os.path.join(self.home, "no/in"):
+            os.makedirs(top, exist_ok=True)
+            self.git("init", "-q", top=top)
+            self.write(".gitignore", "*.ign\nout/\nmade/\n", top=top)
+            for name in "sub/y.ign", "out/deep/a.c", "plain.c":
+                self.write(name, "sought\n", top=top)
+            self.git("add", "-f", ".", top=top)
+            self.git("commit", "-qm", "x", top=top)
+            for name in "sub/z.ign", "out/deep/b.c", "made/b.c", "made/c.ign", "new.c":
+                self.write(name, "sought\n", top=top)
+        self.write("c.c", "sought\n", top=os.path.join(self.home, "no"))
+        for name, count in (
+            ("work", 8),
+            ("work/sub", 1),
+            ("work/out", 1),
+            ("work/made", 2),
+            ("no", 5),
+            ("no/in", 4),
+        ):
+            shown = Folder(os.path.join(self.home, name))
+            wanted = []
+            for own in shown.files():
+                with open(os.path.join(shown.top, own), encoding="utf-8") as file:
+                    wanted += [own] * ("sought" in file.read())
+            for is_regex, text in (False, "sought"), (True, "sough[t]"):
+                with self.subTest(name, is_regex=is_regex):
+                    query = searched.Wanted(text, is_regex=is_regex)
+                    found = searched.searched(shown, [shown.top], query, "")
+                    self.assertEqual(sorted(one.file for one in found.rows), sorted(wanted))
+                    self.assertEqual(len(wanted), count)
 
     def test_texts_that_are_not_searched(self) -> None:
         """The page says why it has nothing."""

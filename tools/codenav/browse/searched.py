@@ -1,18 +1,20 @@
-"""Texts of the files that are shown, found by `git grep`, which leaves out what `.gitignore` names;
-of a folder that is no checkout too. What is found is bounded, and so is the time."""
+"""Texts of the files that are shown, found by `git grep`: those that git has, and others that
+`.gitignore` doesn't name; of a folder that is no checkout too. What is found is bounded, and so is
+the time."""
 
 import os
 import re
 import subprocess
 import tempfile
 import threading
+from contextlib import suppress
 from dataclasses import dataclass, field
 from typing import IO, Iterator, NamedTuple
 
 from codenav.browse.folder import Folder, Refused
 from codenav.faults import BadCall
 from codenav.texts.decoded import decoded
-from codenav.texts.git import CALL, ENVIRONMENT, checked_top, commit_of, top_of
+from codenav.texts.git import CALL, ENVIRONMENT, checked_top, commit_of, git, top_of
 from codenav.texts.places import units
 
 MOST_FOUND, MOST_CHARACTERS, MOST_LINE = 500, 300, 2_000_000
@@ -20,6 +22,8 @@ SECONDS = 10.0
 AT_ONCE = threading.BoundedSemaphore(4)
 GREP = ("grep", "-n", "-I", "-z", "--column", "--no-color", "--full-name", "--threads=2")
 PLAIN = ("--no-textconv", "--no-recurse-submodules")
+NAMED = ("ls-files", "-z", "--full-name", "--cached", "--ignored", "--exclude-standard")
+"""Files that git has although `.gitignore` names them, which `git grep --untracked` leaves out."""
 
 
 class Wanted(NamedTuple):
@@ -59,38 +63,67 @@ def searched(folder: Folder, tops: list[str], wanted: Wanted, revision: str) -> 
     found = Matches()
     with AT_ONCE:
         for top in tops:
-            search_in(folder, top, wanted, revision, found)
-            if found.said:
-                break
+            for call in calls_in(folder, top, revision):
+                search_in(folder, call, wanted, found)
+                if found.said:
+                    return found
     return found
 
 
-def words_of(wanted: Wanted, is_checkout: bool, commit: str) -> list[str]:
+class Call(NamedTuple):
+    """A call of git: the folder, the top of its work tree, or nothing, the words that say in what
+    is searched, and the files that count, from that top on, where not all do."""
+
+    folder: str
+    tree: str
+    words: tuple[str, ...]
+    commit: str = ""
+    only: frozenset[str] = frozenset()
+
+
+def calls_in(folder: Folder, top: str, revision: str) -> Iterator[Call]:
+    """The calls that search a folder, also in the checkouts below it, which git leaves out of the
+    one around them."""
+    paths = (os.path.join(folder.top, name) for name in folder.checkouts() if name)
+    inner = [path for path in paths if path.startswith(f"{top}/")]
+    is_all = folder.is_left_out and not os.path.lexists(os.path.join(top, ".git"))
+    is_plain = False
+    for own in [top, *inner]:
+        tree = top_of(own)
+        if revision:
+            with suppress(BadCall):
+                commit = commit_of(tree or checked_top(own), revision)
+                yield Call(own, tree, (), commit)
+            continue
+        if not tree:
+            is_plain = True
+            yield Call(own, own, ("--no-index", "--exclude-standard"))
+        elif own == top and is_all:
+            yield Call(own, tree, ("--untracked", "--no-exclude-standard"))
+        else:
+            if not is_plain:
+                yield Call(own, tree, ("--untracked",))
+            named = git(own, *NAMED) or b""
+            if named:
+                yield Call(own, tree, (), "", frozenset(os.fsdecode(named).split("\0")))
+
+
+def words_of(wanted: Wanted, call: Call) -> list[str]:
     """The words of git's call."""
-    words = [*GREP, *PLAIN]
-    if not is_checkout:
-        words += ["--no-index", "--exclude-standard"]
-    elif not commit:
-        words += ["--untracked"]
+    words = [*GREP, *PLAIN, *call.words]
     words += ["-E" if wanted.is_regex else "-F", *([] if wanted.is_case else ["-i"])]
-    words += ["-e", wanted.text, *([commit] if commit else []), "--"]
+    words += ["-e", wanted.text, *([call.commit] if call.commit else []), "--"]
     parts = re.sub(r"([\\*?\[])", r"\\\1", wanted.path)
     return words + ([f":(icase)*{parts}*"] if wanted.path else ["."])
 
 
-def search_in(folder: Folder, top: str, wanted: Wanted, revision: str, found: Matches) -> None:
-    """Adds what is found in a folder."""
-    tree = top_of(top)
-    try:
-        commit = commit_of(tree or checked_top(top), revision) if revision else ""
-    except BadCall:
-        return
-    call = [*CALL, "-C", top, *words_of(wanted, bool(tree), commit)]
+def search_in(folder: Folder, call: Call, wanted: Wanted, found: Matches) -> None:
+    """Adds what a call finds."""
     environment = {**os.environ, **ENVIRONMENT}
     with tempfile.TemporaryFile() as errors:
         try:
             process = subprocess.Popen(
-                call,
+                [*CALL, "-C", call.folder, *words_of(wanted, call)],
                 stdin=subprocess.DEVNULL,
                 stdout=subprocess.PIPE,
                 stderr=errors,
@@ -103,7 +136,7 @@ def search_in(folder: Folder, top: str, wanted: Wanted, revision: str, found: Ma
         timer.start()
         assert process.stdout is not None
         try:
-            for match in read(process.stdout, folder, tree or top, f"{commit}:" if commit else ""):
+            for match in read(process.stdout, folder, call):
                 if len(found.rows) == MOST_FOUND:
                     found.said = f"the first {MOST_FOUND} lines"
                     break
@@ -126,8 +159,9 @@ def stop(process: subprocess.Popen[bytes], late: threading.Event) -> None:
     process.kill()
 
 
-def read(output: IO[bytes], folder: Folder, tree: str, prefix: str) -> Iterator[Match]:
+def read(output: IO[bytes], folder: Folder, call: Call) -> Iterator[Match]:
     """The lines that git prints, of files that are shown."""
+    prefix = f"{call.commit}:" if call.commit else ""
     while line := output.readline(MOST_LINE):
         rest = line
         while rest and line.count(b"\0") < 3:  # the name has line feeds
@@ -138,9 +172,10 @@ def read(output: IO[bytes], folder: Folder, tree: str, prefix: str) -> Iterator[
         fields = line.removesuffix(b"\n").split(b"\0", 3)
         if len(fields) < 4 or not fields[1].isdigit() or not fields[2].isdigit():
             continue
-        name = os.path.relpath(
-            os.path.join(tree, os.fsdecode(fields[0]).removeprefix(prefix)), folder.top
-        )
+        own = os.fsdecode(fields[0]).removeprefix(prefix)
+        if call.only and own not in call.only:
+            continue
+        name = os.path.relpath(os.path.join(call.tree, own), folder.top)
         if any(part.startswith(".") for part in name.split("/")):
             continue
         try:
