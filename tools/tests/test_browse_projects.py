@@ -126,6 +126,35 @@ class OfProjects(Served, InRepository):
             self.assertEqual([row["href"] for row in found], [own])
         self.assertTrue(all(one.startswith("http://127.0.0.1:1/") for one in asked))
 
+    def test_links_at_words(self) -> None:
+        """Without the script too they ask for the file's own project, as it is now."""
+        place = {
+            **PLACE,
+            "project": "kettle",
+            "uri": "file:///ci/kettle/lib.py",
+            "start": {"line": 0, "character": 4},
+            "end": {"line": 0, "character": 8},
+        }
+        for path, project in ("tea/src/lib.rs", "tea"), ("kettle/lib.py", "kettle"):
+            links = [link for link in Words(self.page(f"/files/{path}")).links if "at=" in link]
+            self.assertTrue(links)
+            for link in links:
+                with self.replies({"places": [place]}) as asked:
+                    status, body, headers = self.got(f"/files/{path}{link}")
+                self.assertEqual(status, 303, body)
+                self.assertTrue(headers["Location"].startswith("/files/"))
+                self.assertEqual(
+                    {one.partition("/projects/")[2].split("/")[0] for one in asked}, {project}
+                )
+            if project == "kettle":
+                self.assertEqual(headers["Location"], "/files/kettle/lib.py#L1C5")
+        link = "/files/kettle/lib.py?at=2.5"
+        with open(os.path.join(self.made.top, "kettle/lib.py"), "a", encoding="utf-8") as file:
+            file.write("\n" * 50 + "def more():\n")
+        end = {"start": {"line": 52, "character": 4}, "end": {"line": 52, "character": 8}}
+        with self.replies({"places": [{**place, **end}]}):
+            self.assertEqual(self.got(link)[2]["Location"], "/files/kettle/lib.py#L53C5")
+
     def test_what_a_repository_says_of_itself(self) -> None:
         """Its folders below it count; neither its server nor others do."""
         known = self.made.settings_of(self.made.listed["kettle"])

@@ -114,9 +114,9 @@ class Browser:
         else to the word with its panel."""
         line, _, character = parameters.get("at", "").partition(".")
         position = position_in({"line": line, "character": character})
-        view = self.view(parameters)
+        view = self.view({**parameters, "path": name})
         at = Place(view.path(name), max(position[0], 1) - 1, max(position[1], 1) - 1)
-        with view.lock, suppress(NotThere):
+        with view.answering(), suppress(NotThere):
             try:
                 found = view.ask("definition", at)[0].found
             except NoDocument:
