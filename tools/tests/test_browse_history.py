@@ -17,6 +17,7 @@ from codenav.browse.changes import aligned, changes
 from codenav.browse.folder import Folder
 from codenav.asking.outlines import ends_of
 from codenav.settings.found import Settings
+from codenav.texts import revisions
 from codenav.texts.moved.matching import ShortestEdit
 from tests.randomly import check_cases
 from tests.repository import InRepository
@@ -158,6 +159,54 @@ class OfHistory(Served, InRepository):
         self.assertIn("2 lines added", root)
         self.page("/compare/b.rs?from=none", 404)
         self.page("/compare/none.rs", 404)
+
+    def test_what_a_revision_has(self) -> None:
+        """That it doesn't have a file is said of no other fault: a revision that comes later, a
+        shallow clone and a partial one, a name with a line feed, and what is no text."""
+        none = "have it"
+        with mock.patch.object(revisions, "FRESH", 1e9):
+            self.page("/compare/b.rs?from=zz&to=HEAD", 404)
+            self.git("branch", "zz")
+            body = self.got("/compare/b.rs?from=zz&to=HEAD")[1]
+            self.assertNotIn(none, body)
+        with mock.patch.object(revisions, "FRESH", 0.0):
+            text = Words(self.page("/compare/b.rs?from=zz&to=HEAD")).text()
+        self.assertIn("0 lines added, 0 lines removed", text)
+        self.write("n\nl.rs", "fn one() {}\n")
+        self.write("end\r", "fn one() {}\n")
+        with open(os.path.join(self.top, "bin"), "wb") as file:
+            file.write(b"\xff\0")
+        self.commit()
+        for name in "n%0Al.rs", "end%0D":
+            text = Words(self.page(f"/compare/{name}")).text()
+            self.assertIn("0 lines added, 0 lines removed", text)
+            for link in Words(self.page(f"/history/{name}")).links:
+                if link.startswith(("/compare/", f"/files/{name}?")):
+                    self.page(link)
+            self.page(f"/files/{name}?revision=HEAD")
+        os.unlink(os.path.join(self.top, "bin"))
+        self.assertIn("bin: not a text in HEAD", self.page("/compare/bin", 404))
+        text = Words(self.page("/compare/b.rs?from=HEAD%5E&to=HEAD")).text()
+        self.assertNotIn(none, text)
+
+    def test_what_a_clone_does_not_have(self) -> None:
+        self.git("add", "-A")
+        self.git("commit", "-qm", "last")
+        self.git("config", "uploadpack.allowFilter", "true")
+        for name, words, said in (
+            ("shallow", ("--depth", "1"), "a shallow clone without"),
+            ("partial", ("--filter=blob:none",), "in a partial clone"),
+        ):
+            clone = os.path.join(self.home, name)
+            self.git("clone", "-q", *words, f"file://{self.home}/work", clone)
+            self.stop()
+            self.top = clone
+            self.serve(Settings("http://127.0.0.1:1", "app", clone))
+            links = Words(self.page("/history/b.rs")).links if name == "shallow" else []
+            links.append("/compare/b.rs?from=HEAD%5E&to=HEAD")
+            for link in links:
+                if link.startswith("/compare") and "from=" in link:
+                    self.assertIn(said, self.page(link, 404))
 
     def test_a_word_of_an_old_text_leads_on(self) -> None:
         """A word that the page of what differs has, by the link there."""

@@ -30,6 +30,10 @@ class Refused(Exception):
         self.status, self.advice, self.word = status, advice, word
 
 
+class Gone(Refused):
+    """The same of a file that isn't there."""
+
+
 @dataclass(frozen=True)
 class Entry:
     """A file or a folder of a folder."""
@@ -91,7 +95,7 @@ class Folder:
         """The whole path of a file or a folder that is named from the folder on; raises Refused."""
         path = self.named(text)
         if not os.path.exists(path):
-            raise Refused(
+            raise Gone(
                 404, "no such file", "It may have another name now: the key f finds files there:"
             )
         return path

@@ -3,6 +3,7 @@ that a repository's settings name is run."""
 
 import os
 import time
+from contextlib import suppress
 from typing import NamedTuple, Optional
 
 from codenav.browse.changes import same_lines
@@ -69,6 +70,18 @@ def repository_of(view: View, path: str, revision: str = "") -> Repository:
     return Repository(
         top, os.path.relpath(real, top), commit, os.path.relpath(top, view.folder.top)
     )
+
+
+def is_before_all(view: View, name: str) -> bool:
+    """Whether the revision that is shown is what was before the first commit of a file's
+    repository."""
+    revision = view.revision.removesuffix("^")
+    with suppress(Refused):
+        if revision and revision != view.revision:
+            where = repository_of(view, view.folder.named(name), revision)
+            said = git(where.top, "cat-file", "commit", where.commit) or b"\nparent "
+            return b"\nparent " not in said.partition(b"\n\n")[0]
+    return False
 
 
 def said_of(where: Repository, *words: str) -> bytes:

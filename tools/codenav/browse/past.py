@@ -9,9 +9,9 @@ from urllib.parse import quote
 
 from codenav.browse.changes import Change, changes
 from codenav.browse.drawn import html
-from codenav.browse.folder import Refused, href
+from codenav.browse.folder import Gone, Refused, href
 from codenav.browse.frame import END, Shown, framed
-from codenav.browse.history import MOST_COMMITS, Commit, blamed, commits, repository_of
+from codenav.browse.history import MOST_COMMITS, Commit, blamed, commits, is_before_all
 from codenav.browse.listed import number
 from codenav.browse.pages import linked
 from codenav.browse.view import View
@@ -165,14 +165,13 @@ def lines_or_none(view: View, name: str) -> Optional[list[str]]:
     where git knows no such revision, unless it's what was before the first commit."""
     with view.answering():
         try:
-            path = view.path(name)
-            lines = view.lines(path)
-        except Refused as fault:
-            if fault.status != 404:
-                raise
-            own = view.revision.removesuffix("^")
-            repository_of(view, view.folder.named(name), own)
+            lines = view.lines(view.path(name))
+        except Gone:
             return None
+        except Refused:
+            if is_before_all(view, name):
+                return None
+            raise
     return lines[:-1] if not lines[-1] else lines
 
 
