@@ -2,22 +2,25 @@
 between revisions, searches in texts, what isn't listed, and that nothing of a repository is written
 or run."""
 
+import contextlib
 import json
 import os
 import shutil
 import stat
+import threading
 import unittest
 from html.parser import HTMLParser
 from typing import Any
 from unittest import mock
 from urllib.parse import urlencode
 
-from codenav.browse import searched
+from codenav.browse import folder, history, searched, turns
 from codenav.browse.changes import aligned, changes
 from codenav.browse.folder import Folder
 from codenav.asking.outlines import ends_of
 from codenav.settings.found import Settings
 from codenav.texts import revisions
+from codenav.texts.git import git
 from codenav.texts.moved.matching import ShortestEdit
 from tests.randomly import check_cases
 from tests.repository import InRepository
@@ -323,6 +326,44 @@ class OfHistory(Served, InRepository):
         with mock.patch.object(searched, "SECONDS", 0.1):
             with mock.patch.object(searched, "CALL", forever):
                 self.assertIn("what was found in 0.1 seconds", self.page("/search?text=one"))
+
+    def test_who_asks_for_what_takes_long(self) -> None:
+        """Others go on meanwhile: pages of the same files while git blames, and searches for texts
+        while as many regular expressions as may be are searched for; one more is told to wait."""
+        blaming, go_on = threading.Event(), threading.Event()
+
+        def waiting(*words: Any, **named: Any) -> Any:
+            if "blame" in words:
+                blaming.set()
+                go_on.wait(600)
+            return git(*words, **named)
+
+        statuses: list[int] = []
+        with mock.patch.object(history, "git", waiting):
+            reader = threading.Thread(target=lambda: statuses.append(self.got("/blame/b.rs")[0]))
+            reader.start()
+            try:
+                self.assertTrue(blaming.wait(600))
+                self.page("/files/b.rs")
+            finally:
+                go_on.set()
+                reader.join()
+        self.assertEqual(statuses, [200])
+        with contextlib.ExitStack() as others:
+            others.enter_context(mock.patch.object(turns, "SECONDS", 0.0))
+            for _ in range(2):
+                others.enter_context(searched.AT_ONCE[True].turn())
+            self.assertIn("try again", self.page("/search?text=one&regex=1"))
+            self.assertIn("/files/b.rs#L2C4", Words(self.page("/search?text=one")).links)
+        self.assertIn("/files/b.rs#L2C4", Words(self.page("/search?text=one&regex=1")).links)
+        with contextlib.ExitStack() as others:
+            others.enter_context(mock.patch.object(turns, "SECONDS", 0.0))
+            for _ in range(4):
+                others.enter_context(history.AT_ONCE.turn())
+            self.assertIn("try again", self.page("/blame/b.rs", 503))
+        with mock.patch.object(folder, "MOST_BYTES", 10), mock.patch.object(history, "git") as run:
+            self.page("/blame/b.rs", 403)
+            self.assertFalse(run.called)
 
     def test_texts_that_are_no_utf8(self) -> None:
         """And the character U+0000, in each field of an address."""

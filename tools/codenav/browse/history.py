@@ -8,12 +8,14 @@ from typing import NamedTuple, Optional
 
 from codenav.browse.changes import same_lines
 from codenav.browse.folder import Refused
+from codenav.browse.turns import Turns
 from codenav.browse.view import View
 from codenav.faults import BadCall
 from codenav.texts.decoded import decoded, lines_in
 from codenav.texts.git import checked_top, commit_of, git
 
 MOST_COMMITS = 50
+AT_ONCE = Turns(4)
 LAST = 253402300799
 """The last second of the year 9999."""
 FIELDS = "--format=%H%x00%at%x00%an%x00%s"
@@ -87,7 +89,8 @@ def is_before_all(view: View, name: str) -> bool:
 def said_of(where: Repository, *words: str) -> bytes:
     """What git prints of a file; raises Refused where that's nothing, or takes too long."""
     try:
-        printed = git(where.top, *words, variables={"GIT_LITERAL_PATHSPECS": "1"})
+        with AT_ONCE.turn():
+            printed = git(where.top, *words, variables={"GIT_LITERAL_PATHSPECS": "1"})
     except BadCall as fault:
         raise Refused(503, str(fault), "Its history is long: a revision before has less.") from None
     if printed is None:
@@ -114,13 +117,12 @@ def commits(view: View, path: str, skip: int) -> tuple[list[Commit], bool]:
     return found[:MOST_COMMITS], len(found) > MOST_COMMITS
 
 
-def blamed(view: View, path: str) -> list[tuple[Optional[Commit], int, int]]:
-    """The lines of a file as runs that are of one commit each: the commit, or None of what isn't
-    committed, the first line from 0 and the one behind the last. Raises Refused."""
+def blamed(view: View, path: str, lines: list[str]) -> list[tuple[Optional[Commit], int, int]]:
+    """The lines of a file, which were read, as runs that are of one commit each: the commit, or None
+    of what isn't committed, the first line from 0 and the one behind the last. Raises Refused."""
     where = repository_of(view, path)
     printed = said_of(where, *BLAME, where.commit, "--", where.name)
     known, owners, body = porcelain(printed, where)
-    lines = view.lines(path)
     try:
         committed = lines_in(decoded(body))
     except ValueError as fault:

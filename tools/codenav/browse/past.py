@@ -78,8 +78,8 @@ def blame_page(shown: Shown) -> Iterator[str]:
     view, name = shown.view, shown.name
     path = view.path(name)
     with view.answering():
-        runs = blamed(view, path)
         lines = view.lines(path)
+    runs = blamed(view, path, lines)
     yield from in_frame(
         framed(shown, f"Blame of {name}", '<div class="past blame">$runs</div>', "blame"),
         "$runs",

@@ -7,11 +7,13 @@ import re
 import subprocess
 import tempfile
 import threading
+import time
 from contextlib import suppress
 from dataclasses import dataclass, field
 from typing import IO, Iterator, NamedTuple
 
 from codenav.browse.folder import Folder, Refused
+from codenav.browse.turns import Turns
 from codenav.faults import BadCall
 from codenav.texts.decoded import decoded
 from codenav.texts.git import CALL, ENVIRONMENT, checked_top, commit_of, git, top_of
@@ -19,7 +21,8 @@ from codenav.texts.places import units
 
 MOST_FOUND, MOST_CHARACTERS, MOST_LINE = 500, 300, 2_000_000
 SECONDS = 10.0
-AT_ONCE = threading.BoundedSemaphore(4)
+AT_ONCE = {False: Turns(4), True: Turns(2)}
+"""Of searches for texts, and of those for regular expressions, which may take all their time."""
 GREP = ("grep", "-n", "-I", "-z", "--column", "--no-color", "--full-name", "--threads=2")
 PLAIN = ("--no-textconv", "--no-recurse-submodules")
 NAMED = ("ls-files", "-z", "--full-name", "--cached", "--ignored", "--exclude-standard")
@@ -61,10 +64,11 @@ def searched(folder: Folder, tops: list[str], wanted: Wanted, revision: str) -> 
     if not wanted.text or "\0" in wanted.text + wanted.path or "\n" in wanted.text:
         raise Refused(400, "Texts are searched by one line, without U+0000.")
     found = Matches()
-    with AT_ONCE:
+    with AT_ONCE[wanted.is_regex].turn():
+        until = time.monotonic() + SECONDS
         for top in tops:
             for call in calls_in(folder, top, revision):
-                search_in(folder, call, wanted, found)
+                search_in(folder, call, wanted, found, until)
                 if found.said:
                     return found
     return found
@@ -117,8 +121,8 @@ def words_of(wanted: Wanted, call: Call) -> list[str]:
     return words + ([f":(icase)*{parts}*"] if wanted.path else ["."])
 
 
-def search_in(folder: Folder, call: Call, wanted: Wanted, found: Matches) -> None:
-    """Adds what a call finds."""
+def search_in(folder: Folder, call: Call, wanted: Wanted, found: Matches, until: float) -> None:
+    """Adds what a call finds up to a time."""
     environment = {**os.environ, **ENVIRONMENT}
     with tempfile.TemporaryFile() as errors:
         try:
@@ -132,7 +136,7 @@ def search_in(folder: Folder, call: Call, wanted: Wanted, found: Matches) -> Non
         except OSError as fault:
             raise Refused(500, f"git can't be started: {fault.strerror}") from None
         late = threading.Event()
-        timer = threading.Timer(SECONDS, stop, [process, late])
+        timer = threading.Timer(max(until - time.monotonic(), 0.0), stop, [process, late])
         timer.start()
         assert process.stdout is not None
         try:
