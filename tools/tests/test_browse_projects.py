@@ -16,7 +16,7 @@ from unittest import mock
 from codenav.browse import projects
 from codenav.browse.answers import Browser
 from codenav.browse.folder import Folder
-from codenav.browse.projects import Repositories, checkouts_in, listed_in
+from codenav.browse.projects import Listed, Repositories, checkouts_in, listed_in
 from codenav.browse.server import Pages
 from codenav.cli.browse import BROWSE, BrowseCall, browser_of
 from codenav.client import fetch
@@ -95,6 +95,45 @@ class OfProjects(Served, InRepository):
                 commit = self.git("rev-parse", "main", top=f"{self.repositories}/{name}.git")
                 self.assertRegex(page.text(), f"{name} main {commit[:10]} [0-9-]+ {language} 1")
                 self.assertIn(f"/files/{name}", page.links)
+
+    def test_odd_commits_on_the_start_page(self) -> None:
+        """A commit without its fields, and what git writes in other letters: a row each, and the
+        others are shown."""
+        odd = os.path.join(self.home, "made", "odd")
+        os.makedirs(odd)
+        self.git("init", "-q", "-b", "main", top=odd)
+        self.write("a.rs", "fn a() {}\n", top=odd)
+        first = self.commit(top=odd)
+        tree = self.git("write-tree", top=odd)
+        for text in (
+            f"tree {tree}\nparent {first}\n\nnoauthor",
+            f"tree {tree}\nauthor a <a@a> x +0\ncommitter a <a@a> x +0\n\nx",
+            f"tree {tree}\nauthor a <a@a> 1 +0\ncommitter a <a@a> 99999999999999999999 +0\n\nx",
+            "",
+        ):
+            if text:
+                path = self.write("commit", text, top=self.home)
+                words = ("hash-object", "-t", "commit", "-w", "--literally", path)
+                commit = self.git(*words, top=odd)
+                self.git("update-ref", "refs/heads/main", commit, top=odd)
+            else:
+                commit = first
+                self.git("update-ref", "refs/heads/main", first, top=odd)
+                self.git("config", "i18n.logOutputEncoding", "UTF-16", top=odd)
+            repositories = Repositories(
+                [*self.made.listed.values(), Listed("odd", odd, "HEAD", "http://127.0.0.1:1")],
+                Quiet(),
+            )
+            self.addCleanup(repositories.end)
+            for browser in repositories.browser("", False), of_folder(odd):
+                self.stop()
+                self.show(browser)
+                text = Words(self.page("/")).text()
+                self.assertIn(commit[:10], text)
+                for page in "history", "blame":
+                    name = "odd/a.rs" if browser.projects else "a.rs"
+                    self.assertLess(self.got(f"/{page}/{name}")[0], 500)
+            self.assertIn("1 project", text)
 
     def test_files_of_projects(self) -> None:
         self.assertIn(">pour<", self.page("/files/tea/src/lib.rs"))
@@ -384,6 +423,11 @@ class OfProjects(Served, InRepository):
         for one_reader in readers:
             one_reader.join()
         self.assertEqual(answers, [1] * READERS)
+
+
+def of_folder(folder: str) -> Browser:
+    """What shows a folder of one project."""
+    return Browser(Folder(folder), Settings("http://127.0.0.1:1", "app", folder))
 
 
 def by_project(tags: list[dict[str, Any]]) -> Any:

@@ -21,27 +21,25 @@ LAST = 253402300799
 FIELDS = "--format=%H%x00%at%x00%an%x00%s"
 LOG = ("log", "-z", "--follow", "--name-only", "--encoding=UTF-8", FIELDS)
 PLAIN = ("--no-ext-diff", "--no-textconv", "--no-show-signature", "--no-mailmap")
-BLAME = ("blame", "--porcelain", "--no-textconv")
+BLAME = ("blame", "--porcelain", "--no-textconv", "--encoding=UTF-8")
 
 
 class Commit(NamedTuple):
-    """A commit: its name, when it was made, by whom, its first line, and what the file was called
-    there, from the folder that is shown on."""
+    """A commit: its name, the day when it was made, by whom, its first line, and what the file was
+    called there, from the folder that is shown on."""
 
     name: str
-    time: int
+    day: str
     author: str
     subject: str
     file: str
 
-    def day(self) -> str:
-        """The day when it was made."""
-        return day_of(self.time)
 
-
-def day_of(seconds: int) -> str:
-    """The day of a time of git."""
-    return time.strftime("%Y-%m-%d", time.gmtime(min(max(seconds, 0), LAST)))
+def day_of(seconds: str) -> str:
+    """The day of a time as git prints it; a sign where it's none."""
+    if not seconds.isdecimal():
+        return "-"
+    return time.strftime("%Y-%m-%d", time.gmtime(min(int(seconds[:20]), LAST)))
 
 
 class Repository(NamedTuple):
@@ -113,7 +111,7 @@ def commits(view: View, path: str, skip: int) -> tuple[list[Commit], bool]:
         at += 4
         if fields[at : at + 1] and fields[at].startswith("\n"):
             name, at = fields[at][1:], at + 1
-        found.append(Commit(own, int(when or 0), author, subject, where.shown(name)))
+        found.append(Commit(own, day_of(when), author, subject, where.shown(name)))
     return found[:MOST_COMMITS], len(found) > MOST_COMMITS
 
 
@@ -150,9 +148,9 @@ def porcelain(printed: bytes, where: Repository) -> tuple[dict[str, Commit], lis
         if line.startswith(b"\t"):
             if name not in known:
                 file = where.shown(unquoted(words.get("filename", "")))
-                when = int(words.get("author-time", "0"))
+                day = day_of(words.get("author-time", ""))
                 known[name] = Commit(
-                    name, when, words.get("author", ""), words.get("summary", ""), file
+                    name, day, words.get("author", ""), words.get("summary", ""), file
                 )
             owners.append(name)
             lines.append(line[1:])

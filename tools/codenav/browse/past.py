@@ -51,7 +51,7 @@ def history_page(shown: Shown, parameters: Parameters) -> Iterator[str]:
         change = compared(commit.file, before, f"{commit.name}^", commit.name)
         was = "" if commit.file == name else f' <span class="was">as {html(commit.file)}</span>'
         rows.append(
-            f"<tr><td>{linked_name(commit)}</td><td>{commit.day()}</td><td>{html(commit.author)}</td>"
+            f"<tr><td>{linked_name(commit)}</td><td>{commit.day}</td><td>{html(commit.author)}</td>"
             f'<td><a href="{escape(change)}">{html(commit.subject) or "(no message)"}</a>{was}</td></tr>'
         )
     heads = "".join(f'<th scope="col">{head}</th>' for head in ("Commit", "Day", "By", "Change"))
@@ -102,7 +102,7 @@ def run_of(shown: Shown, commit: Optional[Commit], lines: list[str], first: int)
     else:
         change = compared(commit.file, commit.file, f"{commit.name}^", commit.name)
         who = (
-            f'<span class="who">{linked_name(commit)} <span class="day">{commit.day()}</span> '
+            f'<span class="who">{linked_name(commit)} <span class="day">{commit.day}</span> '
             f'<span class="author">{html(commit.author)}</span> '
             f'<a class="why" href="{escape(change)}">{html(commit.subject) or "(no message)"}</a></span>'
         )
