@@ -15,6 +15,7 @@ from unittest import mock
 from urllib.parse import urlencode
 
 from codenav.browse import folder, history, searched, turns
+from codenav.browse.answers import Browser
 from codenav.browse.changes import aligned, changes
 from codenav.browse.folder import Folder
 from codenav.asking.outlines import ends_of
@@ -292,7 +293,7 @@ class OfHistory(Served, InRepository):
             for is_regex, text in (False, "sought"), (True, "sough[t]"):
                 with self.subTest(name, is_regex=is_regex):
                     query = searched.Wanted(text, is_regex=is_regex)
-                    found = searched.searched(shown, [shown.top], query, "")
+                    found = Browser(shown, Settings("", "app", shown.top)).texts(query, "")
                     self.assertEqual(sorted(one.file for one in found.rows), sorted(wanted))
                     self.assertEqual(len(wanted), count)
 
@@ -320,6 +321,23 @@ class OfHistory(Served, InRepository):
             self.assertIn(
                 "Binary files, UTF-16 and files with U+0000 aren't searched.", page.text()
             )
+
+    def test_a_search_in_a_revision_that_is_not_there(self) -> None:
+        """The page says so, as the others do; of many repositories where none has it."""
+        inner = os.path.join(self.top, "inner")
+        os.mkdir(inner)
+        self.git("init", "-q", top=inner)
+        self.write("a.rs", "two\n", top=inner)
+        self.commit(top=inner)
+        self.git("branch", "own", top=inner)
+        for revision in "nosuch", "-Ofoo", "HEAD^{tree}", self.first[:-1] + "g":
+            query = urlencode({"text": "two", "revision": revision})
+            text = Words(self.page(f"/search?{query}")).text()
+            self.assertIn(f"git knows no revision {revision}", text)
+            self.assertNotIn("0 lines", text)
+        page = Words(self.page("/search?text=two&revision=own"))
+        self.assertIn("/files/inner/a.rs?revision=own#L1C1", page.links)
+        self.assertNotIn("git knows no", page.text())
 
     def test_a_search_that_takes_too_long(self) -> None:
         forever = ("sh", "-c", "exec sleep 100000")

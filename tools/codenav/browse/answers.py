@@ -73,7 +73,8 @@ class Browser:
 
     def texts(self, wanted: Wanted, revision: str) -> Matches:
         """The lines of files that have a text."""
-        tops = [os.path.join(self.folder.top, name) for name in self.projects or [""]]
+        top = self.folder.top
+        tops = [os.path.join(top, name) for name in self.projects] or [top]
         return searched(self.folder, tops, wanted, revision)
 
     def asked(self, parameters: Parameters) -> dict[str, Any]:

@@ -8,7 +8,6 @@ import subprocess
 import tempfile
 import threading
 import time
-from contextlib import suppress
 from dataclasses import dataclass, field
 from typing import IO, Iterator, NamedTuple
 
@@ -66,11 +65,16 @@ def searched(folder: Folder, tops: list[str], wanted: Wanted, revision: str) -> 
     found = Matches()
     with AT_ONCE[wanted.is_regex].turn():
         until = time.monotonic() + SECONDS
+        faults: list[str] = []
+        is_known = not revision
         for top in tops:
-            for call in calls_in(folder, top, revision):
+            for call in calls_in(folder, top, revision, faults):
+                is_known = True
                 search_in(folder, call, wanted, found, until)
                 if found.said:
                     return found
+    if not is_known:
+        raise Refused(404, faults[0])
     return found
 
 
@@ -85,9 +89,9 @@ class Call(NamedTuple):
     only: frozenset[str] = frozenset()
 
 
-def calls_in(folder: Folder, top: str, revision: str) -> Iterator[Call]:
+def calls_in(folder: Folder, top: str, revision: str, faults: list[str]) -> Iterator[Call]:
     """The calls that search a folder, also in the checkouts below it, which git leaves out of the
-    one around them."""
+    one around them. Why one hasn't the revision is added to the faults."""
     paths = (os.path.join(folder.top, name) for name in folder.checkouts() if name)
     inner = [path for path in paths if path.startswith(f"{top}/")]
     is_all = folder.is_left_out and not os.path.lexists(os.path.join(top, ".git"))
@@ -95,8 +99,11 @@ def calls_in(folder: Folder, top: str, revision: str) -> Iterator[Call]:
     for own in [top, *inner]:
         tree = top_of(own)
         if revision:
-            with suppress(BadCall):
+            try:
                 commit = commit_of(tree or checked_top(own), revision)
+            except BadCall as fault:
+                faults.append(str(fault))
+            else:
                 yield Call(own, tree, (), commit)
             continue
         if not tree:
