@@ -116,6 +116,27 @@ class OfHistory(Served, InRepository):
             if link.startswith(("/compare", "/files")):
                 self.assertEqual(self.got(link)[0], 200, link)
 
+    def test_what_is_no_file_has_no_past(self) -> None:
+        self.write("src/a.rs", "fn one() {}\n")
+        self.write("src/b.rs", "fn one() {}\n")
+        self.write("turned/a.rs", "fn turned() {}\n")
+        self.write("turned/b.rs", "fn one() {}\n")
+        folders = self.commit()
+        shutil.rmtree(os.path.join(self.top, "turned"))
+        self.write("turned", "fn now() {}\n")
+        last = self.commit()
+        os.symlink("src", os.path.join(self.top, "link"))
+        for page in "history", "blame", "compare":
+            for name in "", "src", "src/", "link":
+                self.assertIn("403: not a file", self.page(f"/{page}/{name}", 403))
+            self.assertIn("not a file", self.page(f"/{page}/?revision={last}", 403))
+        for name in "src", "turned":
+            self.assertIn("not a file", self.page(f"/history/{name}?revision={folders}", 403))
+        for query in "", f"?revision={last}":
+            text = Words(self.page(f"/history/turned{query}")).text()
+            self.assertIn(last[:10], text)
+            self.assertIn(folders[:10], text)
+
     def test_pages_of_commits(self) -> None:
         for number in range(70):
             self.write("many.rs", f"{number}\n")

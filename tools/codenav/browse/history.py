@@ -2,6 +2,7 @@
 that a repository's settings name is run."""
 
 import os
+import secrets
 import time
 from contextlib import suppress
 from typing import NamedTuple, Optional
@@ -18,8 +19,8 @@ MOST_COMMITS = 50
 AT_ONCE = Turns(4)
 LAST = 253402300799
 """The last second of the year 9999."""
-FIELDS = "--format=%H%x00%at%x00%an%x00%s"
-LOG = ("log", "-z", "--follow", "--name-only", "--encoding=UTF-8", FIELDS)
+FIELDS = "--format={}%H%x00%at%x00%an%x00%s"
+LOG = ("log", "-z", "--follow", "--name-only", "--encoding=UTF-8")
 PLAIN = ("--no-ext-diff", "--no-textconv", "--no-show-signature", "--no-mailmap")
 BLAME = ("blame", "--porcelain", "--no-textconv", "--encoding=UTF-8")
 
@@ -99,18 +100,22 @@ def said_of(where: Repository, *words: str) -> bytes:
 def commits(view: View, path: str, skip: int) -> tuple[list[Commit], bool]:
     """Some commits that changed a file, also under the names that it had before, the last one first;
     and whether there are more. Raises Refused."""
+    if view.checkout is None and os.path.isdir(path):
+        raise Refused(403, "not a file")
     where = repository_of(view, path)
-    some = (f"--skip={skip}", f"--max-count={MOST_COMMITS + 1}")
+    kind = git(where.top, "cat-file", "-t", f"{where.commit}:{where.name}")
+    if view.checkout is not None and kind in (b"tree\n", b"commit\n"):
+        raise Refused(403, "not a file")
+    mark = secrets.token_hex(20)
+    some = (FIELDS.format(mark), f"--skip={skip}", f"--max-count={MOST_COMMITS + 1}")
     words = (*LOG, *PLAIN, *some, where.commit, "--", where.name)
     printed = said_of(where, *words)
     found: list[Commit] = []
-    fields = os.fsdecode(printed).split("\0")
-    at, name = 0, where.name
-    while at + 3 < len(fields):
-        own, when, author, subject = fields[at : at + 4]
-        at += 4
-        if fields[at : at + 1] and fields[at].startswith("\n"):
-            name, at = fields[at][1:], at + 1
+    name = where.name
+    for part in os.fsdecode(printed).split(mark)[1:]:
+        own, when, author, subject, *names = part.split("\0")
+        if names and names[0].startswith("\n"):  # many of what was a folder
+            name = names[0][1:]
         found.append(Commit(own, day_of(when), author, subject, where.shown(name)))
     return found[:MOST_COMMITS], len(found) > MOST_COMMITS
 

@@ -134,8 +134,8 @@ def compare_page(shown: Shown, parameters: Parameters, view_of: ViewOf) -> Itera
     first = parameters.get("from", "") or "HEAD"
     last = parameters.get("to", "") or shown.view.revision
     old, new = view_of(first), view_of(last)
-    before = lines_or_none(old, old_name)
     after = lines_or_none(new, name)
+    before = lines_or_none(old, old_name)
     if before is None and after is None:
         raise Refused(404, f"neither {first} nor {last or 'today'} has this file")
     found = changes(before or [], after or [])
