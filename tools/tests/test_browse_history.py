@@ -162,6 +162,21 @@ class OfHistory(Served, InRepository):
         self.assertIn(f'<a href="/files/a.rs?revision={self.second}&amp;at=2.12">one</a>', old)
         self.page("/blame/none.rs", 404)
 
+    def test_git_that_says_of_no_line_whose_it_is(self) -> None:
+        """The page says that the file isn't there where that's so, and else what git says."""
+        self.write("new.rs", "fn one() {}\n")
+        self.assertIn(f"404: new.rs: not in {self.third[:12]}", self.page("/blame/new.rs", 404))
+        self.assertIn("no commit has this file", self.page("/history/new.rs"))
+        self.assertNotIn("no commit has this file", self.page("/history/b.rs"))
+        self.git("config", "blame.ignoreRevsFile", "nosuchfile")
+        body = self.page("/blame/b.rs", 500)
+        self.assertRegex(body, "b.rs: fatal: .*nosuchfile")
+        self.git("config", "--unset", "blame.ignoreRevsFile")
+        self.assertIn(self.first[:10], self.page("/blame/b.rs"))
+        blob = self.git("rev-parse", f"{self.second}:a.rs")
+        os.unlink(os.path.join(self.top, ".git/objects", blob[:2], blob[2:]))
+        self.assertRegex(self.page("/blame/b.rs", 500), "b.rs: .*fatal")
+
     def test_what_differs(self) -> None:
         """In the words of both sides, which lead on in the text that they are of."""
         cases: list[tuple[str, str, list[str]]] = [

@@ -87,14 +87,18 @@ def is_before_all(view: View, name: str) -> bool:
 
 def said_of(where: Repository, *words: str) -> bytes:
     """What git prints of a file; raises Refused where that's nothing, or takes too long."""
+    faults: list[str] = []
+    literal = {"GIT_LITERAL_PATHSPECS": "1"}
     try:
         with AT_ONCE.turn():
-            printed = git(where.top, *words, variables={"GIT_LITERAL_PATHSPECS": "1"})
+            printed = git(where.top, *words, variables=literal, faults=faults)
     except BadCall as fault:
         raise Refused(503, str(fault), "Its history is long: a revision before has less.") from None
-    if printed is None:
+    if printed is not None:
+        return printed
+    if git(where.top, "ls-tree", where.commit, "--", where.name, variables=literal) == b"":
         raise Refused(404, f"{where.name}: not in {where.commit[:12]}")
-    return printed
+    raise Refused(500, f"{where.name}: {' '.join(faults) or 'git fails'}")
 
 
 def commits(view: View, path: str, skip: int) -> tuple[list[Commit], bool]:

@@ -65,9 +65,10 @@ def history_page(shown: Shown, parameters: Parameters) -> Iterator[str]:
         own = f"{href(name, page='history')}?skip={start}"
         own += f"&revision={quote(os.fsencode(view.revision), safe='')}" if view.revision else ""
         pages.append(f'<a class="button" href="{escape(own)}">{label}</a>')
+    none = "" if rows else '<p class="said">no commit has this file</p>'
     content = (
         f'<div class="past"><h2>History</h2><table class="commits"><thead><tr>{heads}</tr></thead>'
-        f"<tbody>{''.join(rows)}</tbody></table><p>{' '.join(pages)}</p></div>"
+        f"<tbody>{''.join(rows)}</tbody></table>{none}<p>{' '.join(pages)}</p></div>"
     )
     yield framed(shown, f"History of {name}", content, "history") + END
 
