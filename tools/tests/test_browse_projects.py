@@ -5,6 +5,7 @@ import http.client
 import io
 import json
 import os
+import random
 import shutil
 import socket
 import threading
@@ -12,6 +13,7 @@ import unittest
 from contextlib import redirect_stderr
 from typing import Any
 from unittest import mock
+from urllib.parse import urlencode
 
 from codenav.browse import projects
 from codenav.browse.answers import Browser
@@ -215,6 +217,45 @@ class OfProjects(Served, InRepository):
             found = json.loads(self.page("/names?prefix=pour"))["names"]
         self.assertEqual([row["name"] for row in found], ["pour", "to_pour"])
         self.assertTrue(found[0]["href"].startswith("/files/tea/src/lib.rs#L1"))
+
+    def test_only_paths_with_a_text(self) -> None:
+        """They count for names, files and texts alike, from the folder that is shown on."""
+        tags = [
+            {**TAG, "project": "tea", "name": "boil", "address": "1", "file": "src/lib.rs"},
+            {**TAG, "project": "kettle", "name": "boil", "address": "1", "file": "lib.py"},
+            {**TAG, "project": "kettle", "name": "boil", "address": "1", "file": "lib.py"},
+        ]
+        files = "tea/src/lib.rs", "kettle/lib.py"
+        parts = ["tea", "TEA/SRC", "a/src/l", "nowhere", "tea/", "*", "lib", "/", "ttle/l"]
+        drawn = random.Random(7)
+        for file in files * 8:
+            start = drawn.randrange(len(file))
+            parts.append(file[start : drawn.randrange(start + 1, len(file) + 1)])
+        for path in parts:
+            wanted = sorted(file for file in files if path.lower() in file)
+            with self.subTest(path), mock.patch.object(fetch, "request", by_project(tags)):
+                query = urlencode({"text": "boil", "path": path})
+                page = self.page(f"/search?{query}").partition("<h3>Names")[2]
+                page = page.partition("</main>")[0]
+                texts = [link.partition("#")[0] for link in Words(page).links]
+                wanted_twice = [f"/files/{name}" for name in wanted for _ in range(2)]
+                self.assertEqual(sorted(texts), sorted(wanted_twice))
+                query = urlencode({"text": "lib", "path": path})
+                page = self.page(f"/search?{query}").partition("<h3>Files")[2]
+                links = Words(page.partition("<h3>Texts")[0]).links
+                self.assertEqual(sorted(links), sorted(f"/files/{name}" for name in wanted))
+
+    def test_a_tag_of_a_link(self) -> None:
+        """The place is listed once."""
+        os.symlink("lib.py", os.path.join(self.made.top, "kettle/again.py"))
+        tags = [
+            {**TAG, "project": "kettle", "name": "boil", "address": "1", "file": name}
+            for name in ("again.py", "lib.py")
+        ]
+        with mock.patch.object(fetch, "request", by_project(tags)):
+            found = json.loads(self.page("/names?prefix=boil"))
+        self.assertEqual([row["place"] for row in found["names"]], ["kettle/lib.py:1"])
+        self.assertIn("1 name", found["said"])
 
     def test_a_revision_that_goes_on(self) -> None:
         commit = self.change("kettle", "lib.py", "def boil_more():\n    pass\n")

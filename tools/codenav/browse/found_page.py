@@ -28,12 +28,9 @@ def search_page(browser: Browser, shown: Shown, parameters: Parameters) -> Itera
     if wanted.text:
         try:
             if not wanted.is_regex:
-                parts.append(
-                    rows("Names", browser.names({"prefix": wanted.text, "revision": revision}))
-                )
-                parts.append(
-                    rows("Files", browser.files({"text": wanted.text, "revision": revision}))
-                )
+                fields = {"only": wanted.path, "revision": revision}
+                parts.append(rows("Names", browser.names({"prefix": wanted.text, **fields})))
+                parts.append(rows("Files", browser.files({"text": wanted.text, **fields})))
         except (BadCall, Refused) as fault:  # texts are found without the index
             label = "" if isinstance(fault, Refused) else "Names: "
             parts.append(f'<p class="said">{label}{html(str(fault))}</p>')

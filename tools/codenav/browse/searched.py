@@ -119,22 +119,37 @@ def calls_in(folder: Folder, top: str, revision: str, faults: list[str]) -> Iter
                 yield Call(own, tree, (), "", frozenset(os.fsdecode(named).split("\0")))
 
 
-def words_of(wanted: Wanted, call: Call) -> list[str]:
-    """The words of git's call."""
+def words_of(wanted: Wanted, call: Call, above: str) -> list[str]:
+    """The words of git's call in a folder, `above` which are the folders from the one that is shown
+    to it."""
     words = [*GREP, *PLAIN, *call.words]
     words += ["-E" if wanted.is_regex else "-F", *([] if wanted.is_case else ["-i"])]
     words += ["-e", wanted.text, *([call.commit] if call.commit else []), "--"]
-    parts = re.sub(r"([\\*?\[])", r"\\\1", wanted.path)
-    return words + ([f":(icase)*{parts}*"] if wanted.path else ["."])
+    return words + (paths_with(wanted.path, above) if wanted.path else ["."])
+
+
+def paths_with(text: str, above: str) -> list[str]:
+    """What git calls the paths in a folder that have a text, which may begin in those above."""
+    if text.lower() in above.lower():
+        return ["."]
+    starts = [at for at in range(1, len(text)) if above.lower().endswith(text[:at].lower())]
+    patterns = [f"*{pattern(text)}*", *(f"{pattern(text[at:])}*" for at in starts)]
+    return [f":(icase){one}" for one in patterns]
+
+
+def pattern(text: str) -> str:
+    """A text as git writes it in a pattern."""
+    return re.sub(r"([\\*?\[])", r"\\\1", text)
 
 
 def search_in(folder: Folder, call: Call, wanted: Wanted, found: Matches, until: float) -> None:
     """Adds what a call finds up to a time."""
     environment = {**os.environ, **ENVIRONMENT}
+    above = os.path.join(os.path.relpath(call.folder, folder.top), "").removeprefix("./")
     with tempfile.TemporaryFile() as errors:
         try:
             process = subprocess.Popen(
-                [*CALL, "-C", call.folder, *words_of(wanted, call)],
+                [*CALL, "-C", call.folder, *words_of(wanted, call, above)],
                 stdin=subprocess.DEVNULL,
                 stdout=subprocess.PIPE,
                 stderr=errors,
