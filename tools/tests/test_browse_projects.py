@@ -15,7 +15,7 @@ from typing import Any
 from unittest import mock
 from urllib.parse import urlencode
 
-from codenav.browse import projects
+from codenav.browse import projects, start_page
 from codenav.browse.answers import Browser
 from codenav.browse.folder import Folder
 from codenav.browse.projects import Listed, Repositories, checkouts_in, listed_in
@@ -313,6 +313,22 @@ class OfProjects(Served, InRepository):
             self.commit(top=empty)
             with mock.patch.object(projects, "SECONDS", 0.0):
                 self.assertIn(">now<", self.page("/files/empty/a.rs"))
+
+    def test_a_repository_that_is_gone(self) -> None:
+        """Its files stay, and the first page says why it isn't followed, until it's there again."""
+        where = os.path.join(self.repositories, "tea.git")
+        os.rename(where, f"{where}.away")
+        with mock.patch.object(projects, "SECONDS", 0.0), mock.patch.object(
+            start_page, "SECONDS", 0.0
+        ):
+            page = Words(self.page("/"))
+            self.assertIn("tea not a repository of git", page.text())
+            self.assertIn("/files/tea", page.links)
+            self.assertIn(">pour<", self.page("/files/tea/src/lib.rs"))
+            self.page("/history/tea/src/lib.rs", 404)
+            os.rename(f"{where}.away", where)
+            self.assertRegex(Words(self.page("/")).text(), "tea main [0-9a-f]{10} ")
+            self.page("/history/tea/src/lib.rs")
 
     def test_repositories_are_only_read(self) -> None:
         """Nothing of them changes, and nothing that they name is run, whatever they have."""

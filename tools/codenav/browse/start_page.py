@@ -97,9 +97,10 @@ class Start:
 
 def row(one: Project) -> str:
     """A project as a row."""
-    if one.fault:
-        return f'<tr><td>{html(one.name)}</td><td colspan="4">{html(one.fault)}</td></tr>'
     address = escape(href(one.folder))
+    if one.fault:
+        name = f'<a href="{address}">{html(one.name)}</a>' if one.files else html(one.name)
+        return f'<tr><td>{name}</td><td colspan="4">{html(one.fault)}</td></tr>'
     languages = ", ".join(map(html, one.languages)) or "-"
     return (
         f'<tr><td><a href="{address}">{html(one.name)}</a></td><td>{html(one.label)} <span class="commit">{one.commit[:10] or "-"}</span></td>'
