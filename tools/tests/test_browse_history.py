@@ -381,6 +381,26 @@ class OfHistory(Served, InRepository):
             with mock.patch.object(searched, "CALL", forever):
                 self.assertIn("what was found in 0.1 seconds", self.page("/search?text=one"))
 
+    def test_what_a_search_can_not_read(self) -> None:
+        """The page says how many files and folders that is."""
+        path = self.write("closed/c.rs", "one\n")
+        self.assertNotIn("be read", self.page("/search?text=one"))
+        if os.geteuid():
+            for name, said in (path, "1 path"), (os.path.dirname(path), "1 path"):
+                os.chmod(name, 0)
+                try:
+                    text = Words(self.page("/search?text=one")).text()
+                finally:
+                    os.chmod(name, 0o700)
+                self.assertIn(f"; {said} can't be read", text)
+        script = r"printf 'error: \047a\047: Permission denied\nerror: \047b\047: x\n' >&2"
+        with mock.patch.object(searched, "CALL", ("sh", "-c", script)):
+            text = Words(self.page("/search?text=one")).text()
+        self.assertIn("0 lines in 0 files; 2 paths can't be read", text)
+        with mock.patch.object(searched, "CALL", ("sh", "-c", "echo fatal: some fault >&2")):
+            text = Words(self.page("/search?text=one")).text()
+        self.assertIn("git can't search: some fault", text)
+
     def test_who_asks_for_what_takes_long(self) -> None:
         """Others go on meanwhile: pages of the same files while git blames, and searches for texts
         while as many regular expressions as may be are searched for; one more is told to wait."""

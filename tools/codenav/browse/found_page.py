@@ -88,4 +88,5 @@ def lines_of(found: Matches, wanted: Wanted, revision: str) -> str:
             f'<section><h4>{html(name)} <span class="count">{len(own)}</span></h4><ul>{links}</ul></section>'
         )
     said = found.said or f"{number(len(found.rows), 'line')} in {number(len(files), 'file')}"
+    said += f"; {number(len(found.unread), 'path')} can't be read" if found.unread else ""
     return f'<h3>Texts <span class="count">{said}</span></h3>{"".join(parts)}<p class="said">{NOT_SEARCHED}</p>'

@@ -23,6 +23,7 @@ SECONDS = 10.0
 AT_ONCE = {False: Turns(4), True: Turns(2)}
 """Of searches for texts, and of those for regular expressions, which may take all their time."""
 GREP = ("grep", "-n", "-I", "-z", "--column", "--no-color", "--full-name", "--threads=2")
+UNREAD = b"error: ", b"warning: could not open directory"
 PLAIN = ("--no-textconv", "--no-recurse-submodules")
 NAMED = ("ls-files", "-z", "--full-name", "--cached", "--ignored", "--exclude-standard")
 """Files that git has although `.gitignore` names them, which `git grep --untracked` leaves out."""
@@ -51,10 +52,12 @@ class Match(NamedTuple):
 
 @dataclass
 class Matches:
-    """What was found, and what is to be said of it where it isn't all."""
+    """What was found, what is to be said of it where it isn't all, and what git says of files and
+    folders that it couldn't read."""
 
     rows: list[Match] = field(default_factory=list)
     said: str = ""
+    unread: set[bytes] = field(default_factory=set)
 
 
 def searched(folder: Folder, tops: list[str], wanted: Wanted, revision: str) -> Matches:
@@ -174,9 +177,12 @@ def search_in(folder: Folder, call: Call, wanted: Wanted, found: Matches, until:
             process.kill()
             process.communicate()
         errors.seek(0)
-        said = errors.read(1000).split(b"\n")[0]
-    if wanted.is_regex and not found.rows and said.startswith(b"fatal: "):
-        raise Refused(400, "not a regular expression: " + said[7:].decode(errors="replace"))
+        lines = errors.read(MOST_LINE).split(b"\n")
+    found.unread.update(line for line in lines if line.startswith(UNREAD))
+    fatal = next((line for line in lines if line.startswith(b"fatal: ")), b"")
+    if fatal and not found.rows:
+        label = "not a regular expression" if wanted.is_regex else "git can't search"
+        raise Refused(400, f"{label}: {fatal[7:].decode(errors='replace')}")
 
 
 def stop(process: subprocess.Popen[bytes], late: threading.Event) -> None:
