@@ -17,7 +17,7 @@ from codenav.texts.git import found_in, top_of
 from codenav.texts.moved.text_map import TextMap
 from codenav.texts.moved.tokens import tokens_of
 from codenav.texts.places import Place
-from codenav.texts.checkout import Checkout
+from codenav.texts.revisions import Checkout
 
 WORD = re.compile(r"\w+")
 TODAY = "Without ?revision= in the address the page is that of today's file."

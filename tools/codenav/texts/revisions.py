@@ -1,17 +1,17 @@
 """The texts of a git revision, the names that files had there, and the names that they have today.
 
-A repository is asked by one `git cat-file --batch` for texts, and by one more for the names of
-their blobs.
+A repository is asked by one `git cat-file --batch` for texts, and by another for their blobs.
 """
 
 import os
+import re
 import secrets
 import subprocess
 import threading
 import time
 from contextlib import suppress
 from functools import cached_property
-from typing import Optional
+from typing import Callable, Optional, TypeVar
 
 from codenav.faults import BadCall, NoFile
 from codenav.records import COMMIT
@@ -21,6 +21,7 @@ from codenav.texts.git import (
     ENVIRONMENT,
     NO_ANSWER,
     SECONDS,
+    checked_top,
     commit_of,
     found_in,
     git,
@@ -29,6 +30,8 @@ from codenav.texts.git import (
 from codenav.texts.places import is_inside, work_tree
 from codenav.texts.renames import Renames
 
+Found = TypeVar("Found")
+ODD = re.compile(r"\n|\r\Z")  # of a name that can't be a line for `git cat-file --batch`
 FRESH = 5.0
 """Seconds for which it stands that git didn't find something."""
 AWAY = 60.0
@@ -177,9 +180,14 @@ class Revision:
 
     def found(self, name: str) -> list[bytes]:
         """What the revision has by a name: its object, of which kind it is, and more."""
-        if is_odd(name):
-            return self.listed_as(name).split()[:0:-1]
+        if ODD.search(name):
+            return self.listed_as(name)[:0:-1]
         return self.names.asked(f"{self.commit}:{name}").split(b" ")
+
+    def listed_as(self, name: str) -> list[bytes]:
+        """What git lists of a name: its mode, its kind and its object; nothing where it has none."""
+        said = git(self.top, "ls-tree", "-z", "--full-tree", self.commit, "--", name) or b""
+        return said.partition(b"\t")[0].split()
 
     @cached_property
     def is_partial(self) -> bool:
@@ -190,11 +198,6 @@ class Revision:
         """The blob of a file of the revision, or nothing."""
         words = self.found(name)
         return words[0].decode() if words[1:2] == [b"blob"] else ""
-
-    def listed_as(self, name: str) -> bytes:
-        """What git prints of a name in the revision, up to the name; nothing where it has none."""
-        said = git(self.top, "ls-tree", "-z", "--full-tree", self.commit, "--", name)
-        return (said or b"").partition(b"\t")[0]
 
     def text(self, name: str) -> str:
         """The text of a file of the revision, as a checkout writes it, which stands for some
@@ -218,7 +221,7 @@ class Revision:
 
     def body(self, blob: str, name: str) -> Optional[bytes]:
         """The bytes of a blob of that name, as a checkout writes it."""
-        if is_odd(name):
+        if ODD.search(name):
             return git(self.top, "cat-file", "--filters", f"--path={name}", blob)
         _, mark, body = self.blobs.asked(f"{blob} {name}").partition(b"\n")
         return body[:-1] if mark else None
@@ -240,6 +243,58 @@ class Revision:
         return self.renames.new_name(self.commit, name)
 
 
-def is_odd(name: str) -> bool:
-    """Whether a name can't be a line for `git cat-file --batch`."""
-    return "\n" in name or name.endswith("\r")
+class Checkout:
+    """The texts that were indexed are those of a revision, in the work tree that a file is in."""
+
+    def __init__(self, revision: str) -> None:
+        self.label = revision
+        self.tops: dict[str, str] = {}
+        self.revisions: dict[str, Revision] = {}
+        self.faults: dict[str, tuple[float, str]] = {}
+
+    def of(self, path: str) -> Revision:
+        """The revision of the work tree that a file is in. Raises BadCall where it's in none, or
+        that has no such revision."""
+        folder = work_tree(path) or os.path.dirname(os.path.realpath(path))
+        while not os.path.isdir(folder):
+            folder = os.path.dirname(folder)
+        top = self.once(self.tops, folder, checked_top)
+        revision = self.once(self.revisions, top, lambda own: Revision(own, self.label))
+        revision.follow()
+        return revision
+
+    def once(self, known: dict[str, Found], key: str, find: Callable[[str], Found]) -> Found:
+        """What is known of a folder, or is found of it now. Raises BadCall, for some seconds without
+        another look."""
+        if key not in known:
+            since, fault = self.faults.get(key, (0.0, ""))
+            if fault and time.monotonic() - since < FRESH:
+                raise BadCall(fault)
+            try:
+                known[key] = find(key)
+            except BadCall as failed:
+                self.faults[key] = time.monotonic(), str(failed)
+                raise
+        return known[key]
+
+    def old_path(self, path: str) -> str:
+        """The path that a file of today had, before it was renamed."""
+        return self.of(path).old_path(path)
+
+    def old_folder(self, folder: str, path: str) -> str:
+        """The path that a folder of today had, as far as it's in the work tree of a file."""
+        return self.of(path).old_folder(folder)
+
+    def new_path(self, path: str) -> str:
+        """The path that a file has today."""
+        return self.of(path).new_path(path)
+
+    def text(self, path: str) -> str:
+        """The text of a file of the revision."""
+        revision = self.of(path)
+        return revision.text(revision.inside(path))
+
+    def end(self) -> None:
+        """Ends git."""
+        for revision in self.revisions.values():
+            revision.end()

@@ -59,7 +59,7 @@ def sources_of(
     sources: dict[str, Source] = {}
     if revisions:
         # here, for few calls need git
-        from codenav.texts.checkout import Checkout
+        from codenav.texts.revisions import Checkout
     for word in revisions:
         other, mark, named = word.partition("=")
         revision = named if mark else word

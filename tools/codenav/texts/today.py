@@ -17,7 +17,7 @@ from codenav.texts.sources import Source
 
 if TYPE_CHECKING:
     from codenav.texts.moved.text_map import TextMap
-    from codenav.texts.checkout import Checkout
+    from codenav.texts.revisions import Checkout
 
 Position = tuple[int, int]
 NOT_MAPPED = "; its places aren't mapped"
@@ -144,7 +144,7 @@ class Today:
         revision, _ = self.learnt.get(project, ("", ""))
         if known or not revision:
             return known
-        from codenav.texts.checkout import Checkout  # here, for few calls need git
+        from codenav.texts.revisions import Checkout  # here, for few calls need git
 
         checkout = self.checkouts.pop(revision, None) or Checkout(revision)
         self.checkouts[revision] = checkout
