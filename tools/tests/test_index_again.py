@@ -271,8 +271,8 @@ BODIES = (
 
 def edit_go(chance: random.Random, tree: Tree) -> None:
     """Has a program of Go differ a little: what it's made of in a package that others use over a
-    third."""
-    kind, made = chance.randrange(8), chance.choice(["A", "B"])
+    third, and which files a package has."""
+    kind, made = chance.randrange(9), chance.choice(["A", "B"])
     text = tree["a/a.go"]
     if kind == 0:
         tree["b/b.go"] = OfGo.files["b/b.go"].replace("a.A", f"a.{made}")
@@ -286,6 +286,14 @@ def edit_go(chance: random.Random, tree: Tree) -> None:
         tree["d/len.go"] = f"package d\n\nfunc {name}(s string) int {{ return 2 }}\n"
     elif kind == 4:
         tree.pop("d/len.go", None)
+    elif kind == 5:
+        package = chance.choice(["a", "other"])
+        tree["a/more.go"] = re.sub("^package .*", f"package {package}", tree["a/more.go"])
+    elif kind == 6:
+        name = chance.choice(["a/extra.go", "b/extra.go", "n/n.go", "n/n.go", "d/use.go"])
+        if tree.pop(name, None) is None:
+            uses = '\nimport (\n\t_ "m/n"\n\t"m/a"\n)\n\nvar Use a.Runner\n'
+            tree[name] = f"package {name[0]}\n{uses if name == 'd/use.go' else ''}"
     else:
         head, body = f"func (*{made}) Run() int ", chance.choice(BODIES)
         before, _, after = text.partition(head)
@@ -307,6 +315,25 @@ class OfGo(OfC):
 
     def test_edits(self) -> None:
         self.edit(edit_go, range(2), 5)
+
+    def test_packages(self) -> None:
+        """An import leads to all files of its package, whichever came, and what implements an interface
+        of a file is asked again where that was another package's."""
+        tree = {**self.files, "u.go": 'package m\n\nimport "m/a"\n\nvar U a.A\n'}
+        steps: list[tuple[str, str, list[str]]] = [
+            ("a/extra.go", "package a\n", ["a.go:0", "extra.go:0", "more.go:0"]),
+            ("a/more.go", tree["a/more.go"].replace("package a", "package other"), []),
+            ("a/more.go", tree["a/more.go"], ["a.go:0", "extra.go:0", "more.go:0"]),
+        ]
+        self.put(tree)
+        self.again()
+        for name, text, wanted in steps:
+            tree[name] = text
+            self.put(tree)
+            with self.subTest(name=name, text=text):
+                self.again()
+                if wanted:
+                    self.assert_answers({("definition", "u.go", 2, 10): wanted})
 
     def test_over_files(self) -> None:
         """A file that leads to what changed over two others is asked again: it leads elsewhere then."""

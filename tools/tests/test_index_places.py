@@ -88,6 +88,39 @@ class Embedded(OnFolder):
                     self.assertIn(f"field {name} ", said)
 
 
+@unittest.skipUnless(shutil.which("clangd"), "clangd isn't installed")
+class Backslash(OnFolder):
+    """Files that clangd takes for others aren't asked, and nothing leads into these for them."""
+
+    files = {
+        "ok.c": '#include "back\\two.h"\n#include "other.h"\n'
+        "int four(void) { return two() + three(); }\n",
+        "back\\two.h": "static inline int two(void) { return 2; }\n",
+        "back/two.h": "\nint lone(void);\n",
+        "back\\other.c": "int none(void) { return none(); }\n",
+        "back/other.c": '#include "../other.h"\nint three(void) { return three(); }\n',
+        "other.h": "int three(void);\n",
+    }
+
+    def test_left_out(self) -> None:
+        status, said = self.index()
+        self.assertEqual(status, 1, said)
+        what = "a file whose path has a backslash, which the server takes for a slash: 2, the first at "
+        self.assertIn(f"left out: {what}{os.path.join(self.folder, 'back')}\\", said)
+        self.assertNotIn("the server wasn't ready", said)
+        self.assert_answers(
+            {
+                ("definition", "ok.c", 2, 24): [],
+                ("definition", "ok.c", 2, 32): ["other.c:1"],
+                ("definition", "back/other.c", 1, 26): ["other.c:1"],
+                ("references", "other.h", 0, 4): [
+                    *("ok.c:2", "other.c:1", "other.c:1", "other.h:0"),
+                ],
+                ("definition", "back\\other.c", 0, 24): [],
+            }
+        )
+
+
 def crosses(one: Place, two: Place) -> bool:
     """Whether two places cross."""
     first, second = sorted((one[1:], two[1:]))

@@ -43,7 +43,8 @@ class ServerKind(NamedTuple):
     """A language server: how it's called, Debian's package of it, and its settings for a folder and
     its documents. It's ready when it has sent its sign, of each
     open document or of itself, or where it has none when it has been silent for so many seconds
-    with no progress under way. It's asked of some keywords too, which are names."""
+    with no progress under way. It's asked of some keywords too, which are names. It may take a
+    backslash in a path for a slash."""
 
     line: str
     package: str = ""
@@ -51,6 +52,7 @@ class ServerKind(NamedTuple):
     sign: str = ""
     silence: float = 2
     keywords: frozenset[str] = frozenset()
+    is_slashed: bool = False
 
     def lacks(self) -> str:
         """What of it isn't installed; empty where all is."""
@@ -105,8 +107,9 @@ LANGUAGES = (
                 "clangd",
                 settings.clangd,
                 DIAGNOSTICS,
+                is_slashed=True,
             ),
-            ServerKind("ccls", "ccls", settings.ccls, HIGHLIGHTS),
+            ServerKind("ccls", "ccls", settings.ccls, HIGHLIGHTS, is_slashed=True),
         ),
         (*DATABASES, FLAGS),
         "no compile_commands.json (`bear -- make` writes it): the server guesses how files are compiled",
@@ -222,7 +225,9 @@ def installed(language: Language, line: str = "") -> Way:
     except ValueError as fault:
         raise BadCall(f"--server {line!r}: {fault}") from None
     known = {way.line.split()[0]: way for way in language.ways if isinstance(way, ServerKind)}
-    given = known.get(line, ServerKind(line)) if line else None
+    program = os.path.basename(next(iter(shlex.split(line)), ""))
+    own = ServerKind(line, is_slashed=program in known and known[program].is_slashed)
+    given = known.get(line, own) if line else None
     ways = (given,) if given else language.ways
     for way in ways:
         if not way.lacks():

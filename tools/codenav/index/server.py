@@ -8,7 +8,7 @@ from collections import defaultdict
 from typing import Iterable
 
 from codenav.faults import BadCall
-from codenav.index.again import declared, words_of
+from codenav.index.again import declared, includes, words_of
 from codenav.index.answers import Answers, At, Name, Place
 from codenav.index.asked import Asking
 from codenav.index.documents import Lines
@@ -23,8 +23,25 @@ from codenav.index.team import Team
 from codenav.texts.places import path_of
 
 
+BACKSLASH = "%5C"
 MEMBERS = {7, 8, 22}
 """Kinds of symbols that are known where their type is: property, field, member of an enum."""
+
+
+def told_apart(given: Given) -> tuple[Given, set[str]]:
+    """What is given to a server that takes a backslash in a path for a slash, without files with such;
+    and the addresses of others by which it may mean one that's included."""
+    left = [one for one in given.documents if BACKSLASH in one.uri]
+    included = set[str]().union(*includes(given.documents if left else ()).values())
+    for one in left:
+        what = "a file whose path has a backslash, which the server takes for a slash"
+        given.notes.leave_out(what, path_of(one.uri, []) or "")
+    own = [one for one in given.documents if BACKSLASH not in one.uri]
+    return given._replace(documents=own), {
+        one.uri.replace(BACKSLASH, "/")
+        for one in left
+        if os.path.basename(path_of(one.uri, []) or "") in included
+    }
 
 
 class Server:
@@ -39,6 +56,7 @@ class Server:
         lines: Lines,
         kept: Kept,
     ) -> None:
+        given, self.unsure = told_apart(given) if kind.is_slashed else (given, set[str]())
         self.language, self.kind, self.given = language, kind, given
         self.packages, self.lines = packages, lines
         self.documents = {one.uri: one for one in given.documents}
@@ -108,7 +126,7 @@ class Server:
     def ask(self, talk: Team) -> Answers:
         """Asks what isn't kept."""
         self.open(talk, self.changed if self.before.documents else self.documents)
-        asking = Asking(talk, self.lines, self.given.notes, self.given.shows)
+        asking = Asking(talk, self.lines, self.given.notes, self.given.shows, self.unsure)
         found = asking.found
         if self.before.documents:
             self.widen(talk, asking)
