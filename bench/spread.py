@@ -8,13 +8,15 @@ How many surfaces and elements are sent follows from the packages: it's said for
 servers, each the mean of so many addresses, since the hash is of these. Then it's tried: a sample
 of places in each dump is asked for its definition, references and hover, of one server with all,
 and of several without surfaces, with those that join and with all. Answers 0 where the latter two
-answer as the one server.
+answer as the one server. Places are left out where a key leads on that the set of another dump
+hides: surfaces are made of whole dumps and have it (docs/SETS.md).
 
 ten: so many large dumps that are joined with each other (`make_text` of inputs.py), each the set of
 a server of its own. Of the first one's server all is done: its set is split and put there, and the
-surfaces of all others too. Beside it one server has the first set and the one that it leads to,
-both whole. Both are asked in turns at places that lead to the other set: with the surface of that
-one the answers have to be equal, and then all surfaces are put.
+surfaces of all others too; one server in the place of all others' homes has the manifests that name
+these. Beside it one server has the first set and the one that it leads to, both whole. Both are
+asked in turns at places that lead to the other set: with the surface of that one the answers have
+to be equal, and then all surfaces are put.
 
 The dumps are equal but for their names. So two are made and split, and the surfaces of further ones
 are the first one's with other names.
@@ -54,19 +56,24 @@ from contextlib import ExitStack
 from typing import Any, Callable, Iterator, NamedTuple
 
 from inputs import Place, make_text, write_renamed
-from sets import KINDS, children_seconds, points_of, processor_seconds, stage
+from sets import KINDS, Point, children_seconds, points_of, processor_seconds, stage
 
 from codenav.asking.index import Index
 from codenav.client.fetch import Fetch, fetch_from
-from codenav.dumps.tables.graph import HOVER, Graph, Key
+from codenav.dumps.tables.graph import HOVER, LINE, NONE, Graph, Key
 from codenav.dumps.tables.reader import read_graph
 from codenav.faults import Failed
+from codenav.names import PARTS
 from codenav.program import Program, Running
 from codenav.progress import Quiet
+from codenav.sets.manifest import Head, PartEntry, head_lines, tags_text
 from codenav.sets.publish.publish import Publish
 from codenav.sets.publish.spread import Spread
 from codenav.sets.publish.store import Store
-from codenav.sets.ring import home_of
+from codenav.sets.ring import Ring, home_of
+from codenav.sets.split.flat import Flat
+from codenav.sets.split.flattening import flattened
+from codenav.sets.split.keys import conflicted
 from codenav.sets.split.split import SplitOptions, split
 from codenav.sets.surface.found import EXPORT, Bearer, bearers, kinds_of_monikers
 from codenav.sets.surface.made import SurfaceFiles, made_surface
@@ -80,14 +87,15 @@ Answers = list[Any]
 
 
 class Crate(NamedTuple):
-    """A dump that is published as a set: the folder of its parts, its elements, its surface, and
-    the places that are asked."""
+    """A dump that is published as a set: the folder of its parts, its elements, its surface, places
+    in it with the keys around them, and the keys that the set hides."""
 
     name: str
     folder: str
     elements: int
     surface: SurfaceFiles
-    points: list[tuple[str, int, int]]
+    points: dict[Point, set[Key]]
+    hidden: set[Key]
 
     def weight(self) -> int:
         """The elements of the surface."""
@@ -101,8 +109,30 @@ def crate_of(path: str, folder: str) -> Crate:
     split(path, SplitOptions(name), own, Quiet())
     surface = made_surface(path, name, "1", os.path.join(own, "surface"), Quiet())
     with open(path, "rb") as file:
-        elements = sum(1 for _ in file)
-    return Crate(name, own, elements, surface, points_of(own, MOST))
+        graph = read_graph(file, path, "1", Quiet())
+    flat, points = flattened(graph), points_of(own, MOST)
+    hidden = {flat.keys[key] for key in conflicted(flat)}
+    return Crate(name, own, graph.elements, surface, dict(keys_around(flat, points)), hidden)
+
+
+def keys_around(flat: Flat, points: list[Point]) -> Iterator[tuple[Point, set[Key]]]:
+    """The keys of all ranges that have a place, for each of these places."""
+    documents = {uri: number for number, uri in enumerate(flat.written)}
+    for point in points:
+        at, place = documents[point[0]], point[1] * LINE + point[2]
+        meanings = {
+            flat.meaning[rank]
+            for rank in range(flat.first[at], flat.first[at + 1])
+            if flat.start[rank] <= place <= flat.end[rank]
+        } - {NONE}
+        marks = {mark for own in meanings for mark in flat.marks[flat.meanings[own][1]]}
+        yield point, {flat.keys[mark >> 1] for mark in marks}
+
+
+def asked_points(crate: Crate, crates: list[Crate]) -> list[Point]:
+    """The places of a dump from which no key leads on that another one's set hides."""
+    hidden = set[Key]().union(*(own.hidden for own in crates if own is not crate))
+    return [point for point, keys in crate.points.items() if not keys & hidden]
 
 
 def receivers(crates: list[Crate], home: dict[str, str]) -> dict[str, set[str]]:
@@ -131,7 +161,8 @@ def count_saving(crates: list[Crate]) -> None:
         for _ in range(PLACEMENTS):
             ports = rng.sample(range(1024, 65536), number)
             servers = [f"http://127.0.0.1:{port}" for port in ports]
-            home = {crate.name: home_of(servers, crate.name) for crate in crates}
+            ring = Ring(servers)
+            home = {crate.name: ring.home(crate.name) for crate in crates}
             found = receivers(crates, home)
             sent += sum(map(len, found.values()))
             weight += sum(len(found[crate.name]) * crate.weight() for crate in crates)
@@ -163,7 +194,7 @@ def answers_of(crates: list[Crate], servers: list[str]) -> Answers:
     for crate in crates:
         index = Index(crate.name, fetch)
         for kind, member in KINDS.items():
-            for uri, line, character in crate.points:
+            for uri, line, character in asked_points(crate, crates):
                 place = {"uri": uri, "line": line, "character": character}
                 found.append(index.query(kind, place, member))
     return found
@@ -240,7 +271,6 @@ def compared(crates: list[Crate], one: str, servers: list[str]) -> int:
 ASKED = 400
 LONG = 300
 PLACE_KINDS = "definition", "references"
-OF_A_SET = re.compile(r"(s[0-9]+)-(?:surface-)?[0-9a-f]{16}")
 
 
 def in_child(used: dict[str, float], call: Callable[..., Any], *words: object) -> Any:
@@ -275,12 +305,29 @@ def bytes_of(folder: str) -> int:
     return sum(map(os.path.getsize, parts_in(folder)))
 
 
-def put_surface(server: Running, folder: str) -> None:
-    """Puts the surface in a folder on a server."""
-    for path in parts_in(folder):
+def put_surface(server: Running, homes: Running, name: str, folder: str) -> None:
+    """Puts the surface of a set, which is in a folder, on a server; and the manifest that names it on
+    another one, since places of what no manifest names aren't shown."""
+    projects = [os.path.basename(path).removesuffix(".lsif") for path in parts_in(folder)]
+    for project, path in zip(projects, parts_in(folder)):
         with open(path, "rb") as body:
-            project = os.path.basename(path).removesuffix(".lsif")
             Store(server.url).put(project, "lsif", body.read(), secrets.token_hex(16))
+    surface = tuple(PartEntry(project, 0, "") for project in projects)
+    manifest = tags_text(head_lines(Head(name, mark=secrets.token_hex(16), surface=surface)))
+    Store(homes.url).put(name + PARTS, "tags", manifest, secrets.token_hex(16))
+
+
+def fetch_by_front(server: Running, homes: Running) -> Fetch:
+    """What asks a server, and of the manifests of other sets than its own their homes, as a front
+    does."""
+    own, others = (fetch_from(one.url, LONG) for one in (server, homes))
+
+    def fetch(path: str, parameters: dict[str, Any], member: str) -> Any:
+        project = str(parameters.get("project"))
+        is_away = project.endswith(PARTS) and project != f"s0{PARTS}"
+        return (others if is_away else own)(path, parameters, member)
+
+    return fetch
 
 
 def make_sets(text: str, count: int, folder: str) -> None:
@@ -308,37 +355,32 @@ def make_sets(text: str, count: int, folder: str) -> None:
             write_renamed(one, os.path.join(where, name), number, count)
 
 
-def shown(places: list[dict[str, Any]]) -> list[str]:
-    """Places as those of sets, each once; this server hasn't the manifests of the others."""
-    return sorted({str({**one, "project": OF_A_SET.sub(r"\1", one["project"])}) for one in places})
-
-
-def ask_both(one: Running, spread: Running, places: list[Place], is_equal: bool) -> None:
+def ask_both(asked: dict[Running, Fetch], places: list[Place], is_equal: bool) -> None:
     """Asks both servers at places, in turns, and prints what that takes; raises Failed where the
     answers should be equal and aren't."""
-    asked = [Index("s0", fetch_from(server.url, LONG)) for server in (one, spread)]
+    indexes = [Index("s0", fetch) for fetch in asked.values()]
     for kind in PLACE_KINDS:
         times: list[list[float]] = [[], []]
-        before = [processor_seconds(server.pid) for server in (one, spread)]
+        before = [processor_seconds(server.pid) for server in asked]
         found, away = [0, 0], 0
         for uri, line, character in places:
             answers = []
-            for at, index in enumerate(asked):
+            for at, index in enumerate(indexes):
                 began = time.perf_counter()
                 answer = index.query(
                     kind, {"uri": uri, "line": line, "character": character}, "places"
                 )
                 times[at].append(time.perf_counter() - began)
                 found[at] += len(answer)
-                answers.append(shown(answer))
-            away += any("'s0'" not in place for place in answers[0])
+                answers.append(answer)
+            away += any(place["project"] != "s0" for place in answers[0])
             if is_equal and answers[0] != answers[1]:
                 raise Failed(
                     f"{kind} at {uri} {line} {character}: {answers[0][:3]} and {answers[1][:3]}"
                 )
         if not away:
             raise Failed(f"{kind}: no answer leads to another set")
-        for at, server in enumerate((one, spread)):
+        for at, server in enumerate(asked):
             took, used = sorted(times[at]), processor_seconds(server.pid) - before[at]
             print(
                 f"{kind}, {'spread' if at else 'one server'}: p50 {took[len(took) // 2] * 1e3:.2f} ms, "
@@ -375,14 +417,16 @@ def measured(program: str, count: int, copies: int, dumps: list[str], folder: st
     print(f"{count} sets, each of a dump of {made.elements} elements", flush=True)
     make_sets(text, count, folder)
     with ExitStack() as stack:
-        one, spread = (
+        one, spread, homes = (
             stack.enter_context(Program(program).serve(os.path.join(folder, f"{name}.db")))
-            for name in ("one", "spread")
+            for name in ("one", "spread", "homes")
         )
+        asked = {one: fetch_from(one.url, LONG), spread: fetch_by_front(spread, homes)}
 
         def put(number: int) -> None:
+            own = os.path.join(folder, f"s{number}", "surface")
             with stage(f"s{number}, its surface put at the home of s0", spread.pid):
-                put_surface(spread, os.path.join(folder, f"s{number}", "surface"))
+                put_surface(spread, homes, f"s{number}", own)
 
         with stage("s0, put at its home", spread.pid):
             Publish(Store(spread.url), os.path.join(folder, "s0")).run()
@@ -391,11 +435,11 @@ def measured(program: str, count: int, copies: int, dumps: list[str], folder: st
                 Publish(Store(one.url), os.path.join(folder, f"s{number}")).run()
         put(1)
         print("with the surface of the set that the one server has whole: equal answers")
-        ask_both(one, spread, made.places[:ASKED], True)
+        ask_both(asked, made.places[:ASKED], True)
         for number in range(2, count):
             put(number)
         print("with all surfaces")
-        ask_both(one, spread, made.places[:ASKED], False)
+        ask_both(asked, made.places[:ASKED], False)
         report(program, one)
         report(program, spread)
 
@@ -403,7 +447,7 @@ def measured(program: str, count: int, copies: int, dumps: list[str], folder: st
 COMMON = {"std", "core", "alloc", "proc_macro", "test"}
 BYTES_AN_ELEMENT = 77
 BYTES_A_SECOND = 25e6
-PARTS = 1.1
+IN_PARTS = 1.1
 SIZES = 10, 100, 1000
 MOST_SERVERS = 10_000
 WAYS = "all", "cut", "apart"
@@ -463,7 +507,7 @@ def held(found: list[Sized], number: int, call: argparse.Namespace) -> dict[str,
 
     own = call.repositories / number
     others = call.repositories - own
-    parts = own * of_one("elements") * PARTS + sum(one.own for one in found if one.is_common)
+    parts = own * of_one("elements") * IN_PARTS + sum(one.own for one in found if one.is_common)
     surface = of_one("own") + of_one("other")
     joined = parts + own * min(call.joins, number - 1) * surface
     common = others * of_one("common")

@@ -151,8 +151,10 @@ class Ended:
 
 
 def may_stay(calls: list[str]) -> bool:
-    """Whether what was refused is to remove a file, or to look into a folder that goes."""
-    return any(re.search(r"^\d+ \d+ \d (unlink|rmdir|open .*/tmp/[\w-]+$)", call) for call in calls)
+    """Whether what was refused is to remove a file, or to look into a folder that goes, or into one
+    of it, which is named by itself."""
+    refused = re.compile(r"\d+ \d+ \d (unlink|rmdir|open (.*/tmp/)?[\w-]+$)")
+    return any(map(refused.match, calls))
 
 
 def processes_with(mark: str) -> list[int]:

@@ -3,9 +3,10 @@
 notices shows what they leave out. Comparisons, conditions, sums, constants, and calls that are left
 out are changed, at random places; a file's chance is by its places.
 
-Each change is made in a copy of tools/, and the test modules next to its file by imports are run,
-up to the first that fails: so many at most. Each is a line, a survivor's with its text before and
-after; the last has how many of all were noticed. By hand, minutes for each ten.
+Each change is made in a copy of the clone, and of the test modules next to its file by imports so
+many are run, the quickest first, up to one that fails and passes over a copy without a change. Each
+is a line, a survivor's with its text before and after; the last has how many of all were noticed.
+By hand, minutes for each ten.
 
 usage: checks/mutations.py [--seed N] [--count N] [--only WORD] [--jobs N] [--most N] [PROGRAM]
 """
@@ -123,16 +124,19 @@ def line_changes(before: str, after: str) -> tuple[str, str]:
 
 
 def wrong_bodies(random_: random.Random, count: int, only: str) -> list[Wrong]:
-    """So many wrong bodies."""
+    """So many wrong bodies, of which each says something else."""
     files = [path for path in sorted(PACKAGE.rglob("*.py")) if only in str(path)]
     trees = {path: ast.parse(path.read_text("utf-8")) for path in files if "_pb2" not in path.name}
     places = [(path, *place) for path, tree in trees.items() for place in places_in(tree)]
     found = []
-    for path, number, how in random_.sample(places, min(count, len(places))):
+    for path, number, how in random_.sample(places, min(2 * count, len(places))):
         tree, line = changed(trees[path], number, how)
-        text = ast.unparse(tree)
-        before, after = line_changes(ast.unparse(trees[path]), text)
-        found.append(Wrong(str(path.relative_to(PACKAGE)), line, before, after, text))
+        text, own = ast.unparse(tree), ast.unparse(trees[path])
+        if text != own:
+            before, after = line_changes(own, text)
+            found.append(Wrong(str(path.relative_to(PACKAGE)), line, before, after, text))
+        if len(found) == count:
+            break
     return found
 
 
@@ -159,7 +163,9 @@ def passes(name: str, tools: str, program: Optional[str]) -> bool:
 class Tests:
     """The test modules, by how far they are from a file: imports lead from one to the other."""
 
-    def __init__(self) -> None:
+    def __init__(self, program: Optional[str]) -> None:
+        self.program = program
+        self.holding: dict[str, bool] = {}
         self.seconds: dict[str, float] = {}
         # what starts no server is the fastest, before it's known how long each takes
         self.importers: dict[str, set[str]] = {}
@@ -172,8 +178,9 @@ class Tests:
                 self.importers.setdefault(one, set()).add(own)
 
     def near(self, file: str, most: int) -> list[str]:
-        """The test modules that import a file of the package: first those called like it or its
-        folder, then the nearest, and of these the fastest."""
+        """The test modules that import a file of the package, so many of those called like it or
+        its folder, and then of the nearest: those called like it first, and of these the fastest.
+        """
         far = {".".join(["codenav", *Path(file).with_suffix("").parts]): 0}
         waiting = deque(far)
         while waiting:
@@ -185,21 +192,29 @@ class Tests:
         found = [one for one in far if one.startswith("tests.test_") and one not in NOT_RUN]
         words = [word.rstrip("s") for word in Path(file).with_suffix("").parts]
 
-        def order(one: str) -> tuple[bool, int, float]:
-            is_own = any(word in one for word in words)
-            return not is_own, far[one], self.seconds[one]
+        own = {one: -sum(word in one for word in words) for one in found}
+        nearest = sorted(found, key=lambda one: (own[one], far[one], self.seconds[one]))[:most]
+        return sorted(nearest, key=lambda one: (own[one], self.seconds[one]))
 
-        return sorted(found, key=order)[:most]
-
-    def notice(self, wrong: Wrong, most: int, program: Optional[str]) -> bool:
+    def notice(self, wrong: Wrong, most: int) -> bool:
         """Whether a test fails over a wrong body."""
-        with copied(wrong) as tools:
+        with copied() as tools:
+            Path(tools, "codenav", wrong.file).write_text(wrong.text, "utf-8")
             for name in self.near(wrong.file, most):
                 start = time.monotonic()
-                if not passes(name, tools, program):
+                if not passes(name, tools, self.program) and self.holds(name):
                     return True
                 self.seconds[name] = time.monotonic() - start
         return False
+
+    def holds(self, name: str) -> bool:
+        """Whether a test module passes where nothing is wrong; of one that doesn't it's said."""
+        if name not in self.holding:
+            with copied() as tools:
+                self.holding[name] = passes(name, tools, self.program)
+            if not self.holding[name]:
+                print(f"{name} fails without a wrong body, and counts for nothing", flush=True)
+        return self.holding[name]
 
 
 def imported(text: str, own: str) -> Iterator[str]:
@@ -217,15 +232,14 @@ def imported(text: str, own: str) -> Iterator[str]:
 
 
 @contextmanager
-def copied(wrong: Wrong) -> Iterator[str]:
-    """A copy of the tools with a wrong body, beside what else is at the top."""
+def copied() -> Iterator[str]:
+    """The tools of a copy of all that git has of the clone, as it is now."""
+    listed = subprocess.run(["git", "ls-files", "-z"], cwd=TOP, capture_output=True, check=True)
     with tempfile.TemporaryDirectory() as room:
-        for name in os.listdir(TOP):
-            if name not in ("tools", ".git"):
-                os.symlink(TOP / name, os.path.join(room, name))
-        leave = shutil.ignore_patterns("__pycache__")
-        shutil.copytree(TOP / "tools", f"{room}/tools", ignore=leave)
-        Path(room, "tools", "codenav", wrong.file).write_text(wrong.text, "utf-8")
+        os.chmod(room, 0o755)  # another user's processes read it too
+        for name in os.fsdecode(listed.stdout).split("\0")[:-1]:
+            os.makedirs(os.path.dirname(os.path.join(room, name)), exist_ok=True)
+            shutil.copy2(TOP / name, os.path.join(room, name), follow_symlinks=False)
         yield f"{room}/tools"
 
 
@@ -240,11 +254,11 @@ def main() -> int:
     parser.add_argument("program", nargs="?", help="the built program; without it a stand-in")
     call = parser.parse_args()
     program = os.path.abspath(call.program) if call.program else None
-    tests = Tests()
+    tests = Tests(program)
     wrong = wrong_bodies(random.Random(call.seed), call.count, call.only)
 
     def tried(one: Wrong) -> bool:
-        noticed = tests.notice(one, call.most, program)
+        noticed = tests.notice(one, call.most)
         said = "noticed" if noticed else f"{one.before}  ->  {one.after}"
         print(f"{one.file}:{one.line}: {said}", flush=True)
         return noticed

@@ -22,6 +22,20 @@ def of_file(name: str) -> Iterator[None]:
         raise
 
 
+@contextmanager
+def new_folder(prefix: str, within: Optional[str] = None) -> Iterator[str]:
+    """A folder of its own, which goes with the context: what can't be removed is an OSError that
+    names it."""
+    import tempfile  # here, since few calls need it
+
+    folder = tempfile.TemporaryDirectory(prefix=prefix, dir=within)
+    try:
+        yield folder.name
+    finally:
+        with of_file(folder.name):
+            folder.cleanup()
+
+
 class Named(io.FileIO):
     """A file to write, of which faults have another name than its own."""
 

@@ -74,6 +74,8 @@ def set_name(text: str) -> str:
         raise BadCall(
             f"a set is 1 to 47 characters of a-z 0-9 _ -, or NAME@BRANCH, without {BRANCH} and not with {PARTS} at its end, not {text!r}"
         )
+    if PART.fullmatch(name):
+        raise BadCall(f"{text!r} is the name of a part of a set")
     return name
 
 

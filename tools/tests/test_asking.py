@@ -144,6 +144,8 @@ class Asking(OnServer):
         ):
             with self.subTest(what):
                 code, said, _ = self.asked(*words, what, "--json", file, *AT)
+                in_order = json.dumps(json.loads(said), sort_keys=True, separators=(",", ":"))
+                self.assertEqual(said, f"{in_order}\n")
                 reply = json.loads(said)
                 paths = [one.pop("path") for one in reply["places"]] if member == "places" else []
                 found = fetch(f"/projects/app/{what}", at, member)

@@ -152,9 +152,7 @@ class OverTags(OnServer):
         tags = os.path.join(self.folder, "others")
         self.written(tags, LINES)
         self.put("others", tags)
-        unknown = (
-            f"isn't known to {self.url}: it has no dump, and no tags that `codenav publish` made"
-        )
+        unknown = f"has neither a dump at {self.url} nor tags that `codenav publish` made: it may not be there"
         for project in "ap", "others":  # others has tags that don't say so
             wanted = (2, list[str](), f"codenav ask: {project} {unknown}\n")
             self.assertEqual(self.asked(project, "names", "none"), wanted)

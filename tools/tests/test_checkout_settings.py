@@ -158,6 +158,11 @@ class Written(OnServer, InRepository):
                 [self.url, "app", self.top, "more"],
                 "codenav publish: it takes [[URL] PROJECT] [FOLDER]",
             ),
+            (
+                PUBLISH.main,
+                [self.url, "app/next", self.top],
+                "codenav publish: a project is 1 to 64 characters of a-z 0-9 _ -, not 'app/next'",
+            ),
         ]
         for tool, words, said in cases:
             self.assertEqual(quietly(tool, *words)[::2], (2, said + "\n"), words)

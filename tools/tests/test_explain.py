@@ -371,6 +371,7 @@ class Explain(unittest.TestCase):
             ),
             ('{"_type": "tag"}\n', "line 1: T04 fewer than three parts", "FILE:1: {", "json"),
             ("b\ta.c\t1\na\ta.c\t1\n", "line 2: T10 names descend", "FILE:1: b", "--sort=yes"),
+            ("a\ta.c\t1\nb\n", "line 2: T04 fewer than three parts", "FILE:2: b", "address"),
             ("x" * 70_000 + "\n", "line 1: T01 line too long", "FILE:1: xxx", "65,536 bytes"),
         ]
         for body, report, line, advice in rows:
@@ -382,6 +383,8 @@ class Explain(unittest.TestCase):
                 self.assertEqual(shown[1][: len(line)], line)
                 self.assertIn("What ctags should write: ", said)
                 self.assertIn(advice, said)
+                is_other_form = report[:11] in ("line 1: T03", "line 1: T04")
+                self.assertEqual(shown[-1].startswith("What ctags should"), not is_other_form)
         for number in range(1, 12):
             report = f"line 1: T{number:02} text"
             self.assertEqual(self.explained(b"a\ta.c\t1\n", report)[0], 0)

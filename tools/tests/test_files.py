@@ -4,10 +4,10 @@ import os
 import stat
 import tempfile
 import unittest
-from typing import Callable
+from typing import Any, Callable
 from unittest import mock
 
-from codenav.files import whole_file
+from codenav.files import new_folder, whole_file
 
 
 class Files(unittest.TestCase):
@@ -51,6 +51,27 @@ class Files(unittest.TestCase):
                 with open(other, encoding="utf-8") as file:
                     self.assertEqual(file.read(), "what was left is longer")
                 os.unlink(left)
+
+    def test_a_folder_that_stays(self) -> None:
+        """What can't be removed is named, however deep it is."""
+        real = os.open
+        for name in "set", "":
+
+            def refused(path: str, *words: Any, **more: Any) -> int:
+                if os.path.basename(path) == (name or os.path.basename(folder)):
+                    raise OSError(5, "Input/output error", path)
+                return real(path, *words, **more)
+
+            with (
+                self.assertRaises(OSError) as raised,
+                mock.patch("os.open", refused),
+                new_folder("codenav-", self.folder) as folder,
+            ):
+                os.makedirs(os.path.join(folder, "set", "deep"))
+            self.assertEqual((raised.exception.errno, raised.exception.filename), (5, folder))
+        with new_folder("codenav-", self.folder) as folder:
+            os.makedirs(os.path.join(folder, "set"))
+        self.assertFalse(os.path.exists(folder))
 
     def test_where_there_are_no_locks(self) -> None:
         with mock.patch("fcntl.flock", side_effect=OSError(95, "Operation not supported")):

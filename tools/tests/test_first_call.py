@@ -9,6 +9,7 @@ import signal
 import subprocess
 import tempfile
 import unittest
+from unittest import mock
 
 from tests.servers import SECONDS, TOP
 
@@ -31,6 +32,8 @@ beside: low
 
 class FirstCall(unittest.TestCase):
     """A clone of three libraries and the program."""
+
+    env: dict[str, str] = {}
 
     def setUp(self) -> None:
         self.home = os.path.realpath(self.enterContext(tempfile.TemporaryDirectory()))
@@ -61,6 +64,7 @@ class FirstCall(unittest.TestCase):
                 "PATH": ":".join(places),
                 "CALLS": self.calls,
                 "TMPDIR": os.path.join(self.home, "tmp"),
+                **self.env,
             },
             text=True,
             start_new_session=True,
@@ -103,6 +107,14 @@ class FirstCall(unittest.TestCase):
             ),
         )
         self.assertEqual(self.call(), (0, "ran check-lsif a b\n", [], []))
+
+    def test_a_program_that_is_named(self) -> None:
+        """Nothing is built for CODENAV_PROGRAM, which is called in its place."""
+        named = self.write("named", '#!/bin/sh\necho "named $*"\n')
+        os.chmod(named, 0o755)
+        shutil.copytree(os.path.join(TOP, "tools/codenav"), f"{self.top}/tools/codenav")
+        self.enterContext(mock.patch.dict(self.env, {"CODENAV_PROGRAM": named}))
+        self.assertEqual(self.call(), (0, "named check-lsif a b\n", [], []))
 
     def test_a_source_that_changed(self) -> None:
         self.assertEqual(self.call()[3], self.BUILT)

@@ -22,6 +22,12 @@ from unittest import mock
 from codenav.cli.index import INDEX
 from codenav.cli.publish import PUBLISH
 from codenav.client.projects import fresh_key, put
+from codenav.index.conversation import Conversation
+from codenav.index.given import Given, Limits
+from codenav.index.languages import HIGHLIGHTS, ServerKind
+from codenav.index.process import need_room
+from codenav.outcome import Notes
+from codenav.progress import Quiet
 from codenav.texts.places import uri_of
 from tests.servers import TOP, OnServer, command
 from tests.test_set_service import asked_at
@@ -251,6 +257,12 @@ class Failing(OnFolder):
                 status, said = self.stood_in(FAULT="end * * 2")
                 self.assertEqual((status, self.body(), said.count("\n")), (2, whole, 0), said)
                 self.assertEqual(said, f"{tempfile.gettempdir()}: No space left on device")
+        kept = os.path.join(self.home, "kept")
+        os.makedirs(os.path.join(kept, "own"))
+        with mock.patch("os.posix_fallocate", side_effect=full):
+            with self.assertRaises(OSError) as raised:
+                need_room(os.path.join(kept, "own"))
+        self.assertEqual(raised.exception.filename, self.home)
 
     def test_nowhere_to_write(self) -> None:
         """What can't be written is found before anything is asked."""
@@ -555,6 +567,28 @@ class Ccls(OnFolder):
         )
         self.assertNotIn(".ccls-cache", os.listdir(self.folder))
 
+    def test_when_it_is_ready(self) -> None:
+        """It has done all, and says so, or says the same twice: at times it doesn't say that it's
+        idle."""
+        kind = ServerKind("ccls", sign=HIGHLIGHTS)
+        given = Given(self.folder, None, [], (), Limits(), self.home, Notes(), print, Quiet())
+        rows = [
+            ((0, 1, 3, 1), False),
+            ((0, 2, 3, 1), False),
+            ((3, 3, 3, 2), True),
+            ((3, 3, 4, 2), False),
+            ((3, 4, 4, 2), False),
+            ((3, 4, 4, 3), False),
+            ((3, 4, 4, 3), True),
+            ((3, 4, 5, 3), False),
+        ]
+        with open(os.devnull, "wb") as log:
+            talk = Conversation(kind, given, {}, log)
+        for (idle, completed, enqueued, files), wanted in rows:
+            pipeline = {"lastIdle": idle, "completed": completed, "enqueued": enqueued}
+            talk.heard({"id": "ready", "result": {"pipeline": pipeline, "db": {"files": files}}})
+            self.assertEqual(talk.is_quiet, wanted, (idle, completed, enqueued, files))
+
 
 @unittest.skipUnless(shutil.which("clangd"), "clangd isn't installed")
 class CPlusPlus(OnFolder):
@@ -742,6 +776,17 @@ class OddBytes(OnFolder):
                         "definition", {"uri": uri, "line": 1, "character": 11}, "places"
                     )
                     self.assertEqual([one["uri"] for one in found], [uri])
+
+    def test_printed(self) -> None:
+        """What isn't UTF-8 of a name is a mark where it's said, of what is left out and of a fault."""
+        self.write("bad\udcff\udcfe.py", "def f(:\n")
+        state = os.path.join(self.home, "state\udcff", "none")
+        rows = {"bad\ufffd\ufffd.py, line 1": list[str](), "state\ufffd/none": ["--state", state]}
+        for wanted, words in rows.items():
+            with self.subTest(wanted=wanted):
+                line = [*command("index"), *words, self.folder, self.out]
+                said = subprocess.run(line, stderr=subprocess.PIPE, check=False).stderr.decode()
+                self.assertIn(wanted, said)
 
     @unittest.skipUnless(shutil.which("clangd"), "clangd isn't installed")
     def test_c(self) -> None:

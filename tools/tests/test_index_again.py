@@ -7,11 +7,18 @@ import re
 import shutil
 import unittest
 from typing import Callable
+from unittest import mock
 
+from codenav.index.again import declared
+from codenav.index.answers import Name, Place
+from codenav.index.kept import Kept, Known, read
+from codenav.index.surfaces import go_surface, moved_names, moved_place
+from codenav.index.typescript import checker
 from tests.test_index import OnFolder
 
 Tree = dict[str, str]
 Edit = Callable[[random.Random, Tree], None]
+FAULTS = re.compile("has errors for the server|what isn't Python")
 
 
 class Again(OnFolder):
@@ -22,8 +29,11 @@ class Again(OnFolder):
         self.state = os.path.join(self.home, "state")
 
     def call(self, *words: str) -> tuple[int, str]:
-        """A call of `index`."""
-        return self.index(*words)
+        """A call of `index`, where what is wrong with a file is no matter."""
+        status, said = self.index(*words)
+        lines = [line for line in said.split("\n") if not FAULTS.search(line)]
+        is_whole = not any(line.startswith("left out") for line in lines)
+        return (0 if status == 1 and is_whole else status), "\n".join(sorted(lines))
 
     def again(self) -> str:
         """What a call says that may keep answers; has its dump be that of one that doesn't."""
@@ -43,10 +53,15 @@ class Again(OnFolder):
             with open(path, "w", encoding="utf-8") as file:
                 file.write(text)
 
+    def first(self, _: random.Random) -> Tree:
+        """The files that edits begin with."""
+        return dict(self.files)
+
     def edit(self, edit: Edit, seeds: range, count: int) -> None:
         """Has edits by chance come to the same dumps as whole runs."""
         for seed in seeds:
-            chance, tree = random.Random(seed), dict(self.files)
+            chance = random.Random(seed)
+            tree = self.first(chance)
             if os.path.exists(self.state):
                 os.unlink(self.state)
             for step in range(count):
@@ -54,6 +69,80 @@ class Again(OnFolder):
                 with self.subTest(seed=seed, step=step):
                     self.again()
                 edit(chance, tree)
+
+
+class Declared(unittest.TestCase):
+    """What a document declares otherwise than before."""
+
+    def test_kinds(self) -> None:
+        """What types have differs by any name but a function, a variable or a constant, and by the
+        size of anything but a method."""
+        for kind in range(1, 27):
+            one = Name(("A",), "one_two", kind, (2, 9), "int")
+            is_plain = kind in (12, 13, 14)
+            for after, words, differs in (
+                (one, set[str](), False),
+                (one._replace(size=(3, 9)), {"one_two"}, not is_plain and kind != 6),
+                (one._replace(detail="long"), {"one_two"}, not is_plain),
+                (one._replace(name="two"), {"two"}, not is_plain),
+                (None, set[str](), not is_plain),
+            ):
+                with self.subTest(kind, after=after):
+                    kept = Kept(
+                        documents={"file:///a": Known("", names={("file:///a", 1, 2): one})}
+                    )
+                    names = {("file:///a", 8, 2): after} if after else {}
+                    self.assertEqual(declared(names, kept, ["file:///a"]), (words, differs))
+
+
+class Surfaces(unittest.TestCase):
+    def test_go(self) -> None:
+        """Texts that differ in bodies alone have one surface, and no others have."""
+        one = "package a\n\n// F is.\nfunc F(x int) (y interface{ M() }) { return 1 }\n\ntype T struct{ a int }\n"
+        rows = {
+            ("return 1", "return 2"): True,
+            ("return 1", "\n\treturn '{' + \"}\" + `}\n}` /* } */ // }\n"): True,
+            ("return 1", "switch x.(type) {}"): True,
+            ("return 1", "type t struct{ T }"): False,
+            ("return 1 }", ""): False,
+            ("return 1", "return '"): False,
+            ("return 1", "return `"): False,
+            ("{ return 1 }", ""): False,
+            ("F is", "F was"): False,
+            ("M()", "N()"): False,
+            ("(y", "(z"): False,
+            ("a int", "b int"): False,
+            ("func F(x int)", "var F = func(x int)"): False,
+            ("package a", "package a\n"): False,
+        }
+        for (old, new), wanted in rows.items():
+            with self.subTest(old=old, new=new):
+                self.assertIn(old, one)
+                is_same = go_surface(one) == go_surface(one.replace(old, new))
+                self.assertEqual(is_same, wanted)
+        for start in ("var s = `\nfunc x() {\n`\n", "var f = func() int { return %d }\n"):
+            texts = {go_surface(one + start.replace("%d", n) + f"type U{n} int\n") for n in "12"}
+            self.assertEqual(len(texts), 2)
+
+    def test_moved(self) -> None:
+        """A place is known to be where its name is now, or above all that may have moved."""
+
+        def name(text: str, lines: int) -> Name:
+            return Name((), text, 12, (lines, 1))
+
+        def place(line: int, end_line: int) -> Place:
+            return Place("u", line, 5, end_line, 6)
+
+        before = {("u", 2, 5): name("f", 0), ("u", 4, 5): name("g", 0)}
+        after = {("u", 2, 5): name("f", 2), ("u", 6, 5): name("g", 0)}
+        moved = moved_names(before, after)
+        assert moved is not None
+        rows = {(1, 1): 1, (2, 2): 2, (3, 3): None, (4, 4): 6, (4, 5): None, (9, 9): None}
+        for (line, end_line), wanted in rows.items():
+            found = moved_place(place(line, end_line), moved)
+            self.assertEqual(found, None if wanted is None else place(wanted, wanted))
+        self.assertIsNone(moved_names(before, {("u", 2, 5): name("f", 0)}))
+        self.assertIsNone(moved_names(before, {**after, ("u", 6, 5): name("h", 0)}))
 
 
 class StoodIn(Again):
@@ -106,6 +195,10 @@ class StoodIn(Again):
                 self.assertEqual(said.count("\n") == 0, wanted == 2, said)
                 if wanted == 2:
                     self.assertEqual(said, f"{self.state}: it's no file of what is kept")
+        for first, is_known in (lines[0], True), ('["form","codenav index 0, 0"]\n', False):
+            with open(self.state, "w", encoding="utf-8") as file:
+                file.writelines([first, *lines[1:]])
+            self.assertEqual(read(self.state) != {}, is_known)
         os.unlink(self.state)
         self.again()
         with open(os.path.join(self.folder, "compile_flags.txt"), "w", encoding="utf-8") as file:
@@ -167,47 +260,49 @@ class OfC(Again):
         "b.c": '#include "all.h"\nint f1(int a) { struct box b = {a}; return f0(b.side); }\n',
     }
 
-    def call(self, *words: str) -> tuple[int, str]:
-        """What the compiler says of a file is no matter here."""
-        status, said = self.index(*words)
-        lines = [line for line in said.split("\n") if "has errors for the server" not in line]
-        is_whole = not any(line.startswith("left out") for line in lines)
-        return (0 if status == 1 and is_whole else status), "\n".join(sorted(lines))
-
     def test_edits(self) -> None:
         self.edit(edit_c, range(2), 6)
+
+
+BODIES = (
+    "{ return 1 }",
+    "{\n\tx := 1\n\treturn x\n}",
+    "{\n\ttype own struct{ A }\n\treturn own{}.Side\n}",
+    "{\n\tvar x interface{} = `}\n}`\n\tswitch x.(type) {\n\t}\n\treturn '{' // {\n}",
+    "{ return none }",
+)
+"""Bodies of a function of Go: two of them with types of their own, and one that isn't right."""
 
 
 def edit_go(chance: random.Random, tree: Tree) -> None:
     """Has a program of Go differ a little: what it's made of in a package that others use over a
     third, and which files a package has."""
-    side = chance.choice(["Side", "Other"])
-    kind = chance.randrange(8)
+    kind, made = chance.randrange(9), chance.choice(["A", "B"])
+    text = tree["a/a.go"]
     if kind == 0:
-        made = chance.choice(["A", "B"])
-        tree[
-            "b/b.go"
-        ] = f'package b\n\nimport "m/a"\n\nfunc Make() *a.{made} {{ return &a.{made}{{}} }}\n'
+        tree["b/b.go"] = OfGo.files["b/b.go"].replace("a.A", f"a.{made}")
     elif kind == 1:
-        tree[
-            "a/more.go"
-        ] = f"package a\n\ntype Runner interface {{\n\t{chance.choice(['Run', 'Stop'])}() int\n}}\n"
+        name = chance.choice(["Run", "Stop"])
+        tree["a/more.go"] = OfGo.files["a/more.go"].replace("Run", name)
     elif kind == 2:
-        tree["a/a.go"] = OfGo.files["a/a.go"].replace("Side", side)
+        tree["a/a.go"] = text.replace(*chance.choice([("Side", "Other"), ("Other", "Side")]))
     elif kind == 3:
-        tree[
-            "d/len.go"
-        ] = f"package d\n\nfunc {chance.choice(['len', 'two'])}(s string) int {{ return 2 }}\n"
+        name = chance.choice(["len", "two"])
+        tree["d/len.go"] = f"package d\n\nfunc {name}(s string) int {{ return 2 }}\n"
     elif kind == 4:
         tree.pop("d/len.go", None)
     elif kind == 5:
         package = chance.choice(["a", "other"])
         tree["a/more.go"] = re.sub("^package .*", f"package {package}", tree["a/more.go"])
-    else:
+    elif kind == 6:
         name = chance.choice(["a/extra.go", "b/extra.go", "n/n.go", "n/n.go", "d/use.go"])
         if tree.pop(name, None) is None:
             uses = '\nimport (\n\t_ "m/n"\n\t"m/a"\n)\n\nvar Use a.Runner\n'
             tree[name] = f"package {name[0]}\n{uses if name == 'd/use.go' else ''}"
+    else:
+        head, body = f"func (*{made}) Run() int ", chance.choice(BODIES)
+        before, _, after = text.partition(head)
+        tree["a/a.go"] = before + head + body + "\n\n" + after[after.index("\n\n") + 2 :]
 
 
 @unittest.skipUnless(shutil.which("gopls") and shutil.which("go"), "gopls isn't installed")
@@ -215,7 +310,8 @@ class OfGo(OfC):
     files = {
         "go.mod": "module m\n\ngo 1.19\n",
         "a/a.go": "package a\n\ntype Base struct{ Side int }\n\ntype A struct{ Base }\n\n"
-        "func (*A) Run() int { return 1 }\n\ntype B struct{ Base }\n\nfunc (*B) Run() int { return 2 }\n",
+        "func (*A) Run() int { return 1 }\n\ntype B struct{ Base }\n\nfunc (*B) Run() int { return 2 }\n\n"
+        "type C struct{ B }\n",
         "a/more.go": "package a\n\ntype Runner interface {\n\tRun() int\n}\n",
         "b/b.go": 'package b\n\nimport "m/a"\n\nfunc Make() *a.A { return &a.A{} }\n',
         "c/c.go": 'package c\n\nimport "m/b"\n\nvar Made = b.Make()\n',
@@ -254,6 +350,45 @@ class OfGo(OfC):
         self.put(tree)
         self.again()
         self.assert_answers({("definition", "d/d.go", 4, 15): ["a.go:10"]})
+
+
+@unittest.skipIf(checker.lacks(), "node or node-typescript isn't installed")
+class OfTypeScript(Again):
+    files = {
+        "tsconfig.json": '{"include": ["src/**/*.ts"]}',
+        "package.json": '{"name": "app", "version": "1.0.0", "main": "src/main.ts"}',
+        "src/main.ts": "import { run } from './made';\nimport { lib } from 'lib';\nrun(); lib.x;\n",
+        "src/made.ts": "export function run() { return 1; }\n",
+    }
+    changes = {
+        "src/made.ts": "\nexport function run() { return 1; }\n",
+        "src/more.ts": "export const more = 1;\n",
+        "node_modules/lib/index.d.ts": "export declare const lib: { x: number };\n",
+        "node_modules/lib/package.json": '{"name": "lib", "version": "2.0.0", "types": "other.d.ts"}',
+        "node_modules/lib/other.d.ts": "export declare const lib: { y: number; x: string };\n",
+        "package.json": '{"name": "app", "version": "2.0.0", "main": "src/more.ts"}',
+        "tsconfig.json": '{"include": ["src/made.ts"], "compilerOptions": {"strict": true}}',
+        "src/made.d.ts": "export function run(): string;\n",
+    }
+
+    def test_no_change(self) -> None:
+        """Nothing is asked, whatever else comes into the folder."""
+        self.again()
+        self.put({**self.files, "notes.txt": "none"})
+        with mock.patch.object(checker, "printed", side_effect=AssertionError):
+            self.assertEqual(self.call("--state", self.state)[0], 0)
+
+    def test_changes(self) -> None:
+        """What the compiler reads or looks for has it asked again where it comes, goes or differs."""
+        tree = dict(self.files)
+        self.again()
+        for name, text in self.changes.items():
+            with self.subTest(name=name):
+                tree[name] = text
+                self.put(tree)
+                self.again()
+        self.put(self.files)
+        self.again()
 
 
 if __name__ == "__main__":

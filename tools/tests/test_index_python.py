@@ -50,6 +50,19 @@ ROWS: dict[str, dict[str, str]] = {
             (lambda «7:x»: [«x:8» for «8:x» in «x:7»])
             """
     },
+    "what is before a dot is what it is there": {
+        "a.py": """
+            class «1:C»:
+                «2:x» = 1
+            class D:
+                y = «C:1».«x:2»
+                class «3:C»:
+                    «4:x» = 2
+                z = «C:3».«x:4», «C:3»().«x:4»
+            class «5:E»(«C:1»): pass
+            «E:5».«x:2»
+            """
+    },
     "a name that is bound again is one": {
         "a.py": """
             «1:x» = 1

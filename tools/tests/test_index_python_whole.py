@@ -50,7 +50,10 @@ STAND_IN = {
     "jedi/api/__init__.py": "",
     "jedi/api/classes.py": "from jedi import Name",
     "jedi/api/environment.py": "class InterpreterEnvironment: pass",
-    "jedi/inference/__init__.py": "",
+    "jedi/inference/__init__.py": "class InferenceState: parse_and_get_code = None",
+    "jedi/inference/compiled/__init__.py": "",
+    "jedi/inference/compiled/subprocess/__init__.py": "",
+    "jedi/inference/compiled/subprocess/functions.py": "get_module_info = None",
     "jedi/inference/gradual/__init__.py": "from types import SimpleNamespace\n"
     "typeshed = SimpleNamespace(try_to_load_stub_cached=None)",
 }

@@ -6,6 +6,7 @@ import io
 import json
 import os
 import shutil
+import tempfile
 import unittest
 from contextlib import redirect_stderr, redirect_stdout
 from random import Random
@@ -25,7 +26,7 @@ from codenav.sets.publish.publish import Publish
 from codenav.sets.publish.store import Store
 from codenav.settings.found import Settings
 from codenav.texts.places import Place
-from codenav.texts.today import Today
+from codenav.texts.today import NOT_MAPPED, Today
 from tests.repository import InRepository, git_in
 from tests.servers import TOP, OnServer
 from tests.test_browse import Served
@@ -38,6 +39,19 @@ PROJECTS = {"crate": "temperature", "user": "kettle"}
 TOP_LINES = "// one\n// two\n"
 CALL = ("crate/src/lib.rs", "scale::fahrenheit", len("scale::"))
 """The use of a function: its file, a text that stands there once, and where the word is in it."""
+
+
+SHALLOW = "HOME/crate: a shallow clone without REV: `git fetch --depth 1 origin REV` gets it"
+
+
+def made_shallow(top: str) -> None:
+    """Commits what changed in a checkout, and puts a clone of this commit alone in its place."""
+    git_in(top, "add", "-A")
+    git_in(top, "commit", "-qm", "x")
+    full = tempfile.mkdtemp(dir=os.path.dirname(top))
+    shutil.move(top, full)
+    whole = os.path.join(full, os.path.basename(top))
+    git_in(full, "clone", "-q", "--depth", "1", f"file://{whole}", top)
 
 
 def at(text: str, part: str, behind: int) -> tuple[int, int]:
@@ -118,11 +132,6 @@ class Kept(Crates):
         def forgotten() -> None:
             shutil.rmtree(os.path.join(crate, ".git"))
 
-        def shallow() -> None:
-            self.commit(crate)
-            shutil.move(crate, f"{crate}.full")
-            git_in(self.home, "clone", "-q", "--depth", "1", f"file://{crate}.full", crate)
-
         def another() -> None:
             forgotten()
             self.git("init", "-q", top=crate)
@@ -142,8 +151,8 @@ class Kept(Crates):
             ),
             (
                 published(),
-                shallow,
-                f"HOME/crate: a shallow clone without {commit}: `git fetch --depth 1 origin {commit}` gets it{not_mapped}",
+                lambda: made_shallow(crate),
+                f"{SHALLOW.replace('REV', commit)}{not_mapped}",
             ),
             (
                 published(),
@@ -209,6 +218,49 @@ class Kept(Crates):
             f"and --map {root}=FOLDER says where these are here\n"
         )
         self.assertEqual((status, said), (2, line))
+
+    def test_a_folder_that_was_renamed(self) -> None:
+        """A map may name it as it was, or as it's called today."""
+        self.top, crate = os.path.join(self.home, "all"), os.path.join(self.home, "crate")
+        os.mkdir(self.top)
+        shutil.rmtree(os.path.join(crate, ".git"))
+        shutil.move(crate, self.top)
+        self.git("init", "-q")
+        commit = self.commit()
+        call = ["--no-tags", "--program", self.program, "--dump", RAW["crate"], self.url]
+        self.assertEqual(quietly(PUBLISH.main, *call, "temperature", f"{self.top}/crate")[0], 0)
+        self.git("mv", "crate", "lib")
+        self.git("mv", "lib/src/scale.rs", "lib/src/degrees.rs")
+        self.change("all/lib/src/lib.rs")
+        path = self.place("all/lib/src/lib.rs", *CALL[1:])
+        for name in "crate", "lib":
+            maps = ["--map", f"{ROOT}/crate={self.top}/{name}"]
+            words = [*maps, self.url, "temperature", "definition", *map(str, path)]
+            status, said, warned = quietly(ASK.main, *words)
+            changed = f"codenav ask: {path[0]} changed since: the answer is of {commit}\n"
+            self.assertEqual((status, warned), (0, changed), name)
+            self.assertEqual(os.path.abspath(said), f"{self.top}/lib/src/degrees.rs:4:8\n", name)
+
+    def test_a_renamed_file_in_a_shallow_clone(self) -> None:
+        """What is lacking to know how the file was called is said, of a project and of a set; and
+        once it's there the file is found."""
+        crate, commit = os.path.join(self.home, "crate"), self.commits["crate"]
+        lacking = f"{SHALLOW.replace('REV', commit)}\n"
+        for word in "--profile=1", "--set":
+            self.published("crate", word)
+            self.git("mv", "src/lib.rs", "src/new.rs", top=crate)
+            made_shallow(crate)
+            place = self.place("crate/src/new.rs", *CALL[1:])
+            status, _, said = self.answer("definition", place)
+            self.assertEqual(status, 2)
+            asked = f": {ROOT}/crate/src/new.rs: what the file was called isn't known: {lacking}"
+            self.assertTrue(said.startswith("codenav ask: D02 no such document"), said)
+            self.assertTrue(said.endswith(asked), said)
+            git_in(crate, "fetch", "-q", "--depth", "1", "origin", commit)
+            found = 0, ["HOME/crate/src/scale.rs:4:8"], ""
+            self.assertEqual(self.answer("definition", place), found)
+            shutil.rmtree(crate)
+            shutil.copytree(f"{self.home}/kept/crate", crate, symlinks=True)
 
     def test_an_editor_and_a_page(self) -> None:
         """Both are open while the crate is changed and published anew, by and by."""
@@ -325,6 +377,13 @@ class Names(Crates):
                 self.assertEqual((found, told[: len(said)], bool(told)), (places, said, bool(said)))
                 if then is renamed:
                     self.git("mv", "n.py", "m.py", top=self.top)
+
+    def test_a_renamed_file_in_a_shallow_clone(self) -> None:
+        self.git("mv", "m.py", "n.py", top=self.top)
+        made_shallow(self.top)
+        found, told = self.names()
+        lacking = SHALLOW.replace("HOME", self.home).replace("REV", self.commits["crate"])
+        self.assertEqual((found, told.splitlines()[0]), ([], f"codenav ask: {lacking}{NOT_MAPPED}"))
 
     def test_tags_of_another_commit(self) -> None:
         """Tags say themselves of which they are, whatever the dump is of."""

@@ -647,6 +647,31 @@ class Calls(Asked):
         with open(os.path.join(self.top, os.path.basename(word.uri)), encoding="utf-8") as file:
             return file.read().split("\n")[word.line].lstrip().startswith("def ")
 
+    def test_a_call_outside_of_functions(self) -> None:
+        """It's one by the file, whose beginning is what is selected."""
+        self.put({"a.py": "def low(x):\n    return x\nlow(1)\n"})
+        self.begin()
+        [item] = self.at("a.py", 0, 4, "prepareCallHierarchy")
+        first, last = ({"line": line, "character": 0} for line in (0, 3))
+        spans = {
+            "range": {"start": first, "end": last},
+            "selectionRange": {"start": first, "end": first},
+        }
+        self.assertEqual(
+            [one["from"] for one in self.ask("callHierarchy/incomingCalls", {"item": item})],
+            [{"name": "a.py", "kind": 1, "uri": self.uri("a.py"), **spans}],
+        )
+
+    def test_calls_of_what_stands_around(self) -> None:
+        """An item at a place that has no name is the function that the place is in."""
+        self.put({"a.py": "def low(x):\n    return x\ndef high(x):\n    y = 1\n    low(y)\n"})
+        self.begin()
+        for line, named in (2, ["low"]), (3, ["low"]), (4, ["low"]), (1, []):
+            start = {"line": line, "character": 4}
+            item = {"uri": self.uri("a.py"), "selectionRange": {"start": start, "end": start}}
+            calls = self.ask("callHierarchy/outgoingCalls", {"item": item})
+            self.assertEqual([one["to"]["name"] for one in calls], named, line)
+
     def test_no_endless_lists(self) -> None:
         """Of many files and of many words so many are looked at, and it's said."""
         texts = {f"f{number}.py": "def f(x):\n    low(1)\n" for number in range(30)}

@@ -58,6 +58,17 @@ def found_in(
     return list(names.places(project, asked, lambda _: folder)), names.said()
 
 
+class Lines(unittest.TestCase):
+    def test_numbers_alone(self) -> None:
+        """A number finds no line that lacks the name, however long the line is."""
+        for before in "x ", "x " * 10_000:
+            lines = tagged.Tagged([f"{before}name", f"{before}named", f"{before}other"])
+            for line, found in (1, 0), (2, 1), (3, None), (4, None):
+                with self.subTest(line, length=len(before)):
+                    tag = {"name": "name", "kind": "f", "address": str(line), "fields": []}
+                    self.assertEqual(lines.line_of(tag), found)
+
+
 class OverFiles(unittest.TestCase):
     """Tests over files of a folder of their own."""
 

@@ -1,9 +1,32 @@
-"""Where a server's port comes from."""
+"""Which file is the program, and where a server's port comes from."""
 
+import os
 import socket
+import tempfile
 import unittest
 
-from codenav.program import KEPT, free_port
+from codenav.program import KEPT, free_port, is_program
+
+
+class Files(unittest.TestCase):
+    """Files that may be the program."""
+
+    def test_which_is_one(self) -> None:
+        """A file for the system's loader that may be called: no script, no folder, nothing else."""
+        folder = self.enterContext(tempfile.TemporaryDirectory())
+        for body, mode, is_one in (
+            (b"\x7fELF\x02", 0o755, True),
+            (b"\x7fELF\x02", 0o644, False),
+            (b"#!/bin/sh\n", 0o755, False),
+            (b"", 0o755, False),
+        ):
+            path = os.path.join(folder, "codenav")
+            with open(path, "wb") as file:
+                file.write(body)
+            os.chmod(path, mode)
+            self.assertEqual(is_program(path), is_one, (body, mode))
+        for other in folder, f"{folder}/none", f"{path}/none":
+            self.assertFalse(is_program(other), other)
 
 
 class Ports(unittest.TestCase):

@@ -13,7 +13,7 @@ from codenav.cli.lsp import LSP
 from codenav.cli.projects import LIST, REMOVE
 from codenav.client.projects import listed
 from codenav.faults import BadCall
-from codenav.names import set_name, shown_name
+from codenav.names import PART, set_name, shown_name
 from codenav.sets.listed import by_names
 from codenav.sets.publish.publish import Publish
 from codenav.sets.publish.store import Store
@@ -45,6 +45,11 @@ class Names(unittest.TestCase):
             self.assertEqual((set_name(text), shown_name(name)), (name, text))
         for text in ("a--b", "a@", "@b", "a-@b", "a@-b", "a@b@c", "a@b--c", "a--b@c", "a-parts"):
             with self.subTest(text), self.assertRaisesRegex(BadCall, "a set is 1 to 47"):
+                set_name(text)
+        for text in f"a-{DIGITS}", f"a@{DIGITS}":
+            with self.subTest(text), self.assertRaisesRegex(
+                BadCall, "is the name of a part of a set"
+            ):
                 set_name(text)
 
 
@@ -95,6 +100,12 @@ class Lists(OnServer):
                 before = self.names()
                 self.assertEqual(quietly(REMOVE.main, self.url, name), (wanted, text, ""))
                 self.assertEqual(len(before) - len(self.names()), count)
+        part = next(one for one in self.names() if PART.fullmatch(one))
+        text = f"codenav remove: {part!r} is the name of a part of the set 'code'\n"
+        self.assertEqual(quietly(REMOVE.main, self.url, part), (2, "", text))
+        self.assertIn(part, self.names())
+        store.put(f"none-{DIGITS}", "tags", TAGS, "k")
+        self.assertEqual(quietly(REMOVE.main, self.url, f"none-{DIGITS}")[0], 0)
         status, said, _ = quietly(REMOVE.main, "--json", self.url, "code")
         self.assertEqual((status, json.loads(said)), (0, {"removed": True}))
         self.assertEqual(self.names(), ["app", "car-parts", "code-review"])

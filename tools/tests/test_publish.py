@@ -459,10 +459,48 @@ class Publish(OnCheckout):
         with contextlib.chdir(self.home):
             status, said, _ = self.published(*words, url="http://127.0.0.1:1")
         where = "http://127.0.0.1:1"
-        line = f"nothing was uploaded, as --dry-run asks: app at {where} would have a dump, profile 1 and tags"
+        would = "would have a dump, profile 1 and tags, in place of what isn't known"
+        line = f"nothing was uploaded, as --dry-run asks: app at {where} {would}: {where}: Connection refused"
         self.assertEqual((status, said[0], listed(self.url)), (0, line, []))
         self.assertEqual(said[1].split()[:2], ["left", "out"])
         self.assertLessEqual({"dump.lsif", "tags"}, set(os.listdir(kept)))
+
+    def test_a_dry_run_over_what_is_there(self) -> None:
+        """What it would replace is said, and isn't changed."""
+        dump, of_set = "a dump, profile 1", "1 parts, in profile 1"
+        rows: list[tuple[list[str], dict[str, tuple[str, str]]]] = [
+            ([], {"--profile=1": (f"{dump} and tags", "where there is nothing yet")}),
+            (
+                ["--no-tags"],
+                {
+                    "--profile=1": (f"{dump} and tags", "in place of a dump"),
+                    "--no-index": ("tags", "beside a dump"),
+                    "--set": (of_set, "in place of a dump"),
+                },
+            ),
+            (
+                ["--no-index"],
+                {
+                    "--profile=1": (f"{dump} and tags", "in place of a dump and tags"),
+                    "--no-tags": (dump, "in place of a dump, beside tags"),
+                    "--set": (of_set, "in place of a dump and tags"),
+                },
+            ),
+            (["--set"], {"--profile=1": (of_set, "in place of a set of 1 parts")}),
+        ]
+        for before, calls in rows:
+            if before:
+                self.assertEqual(self.published(*before, "app", self.checkout)[0], 0)
+            there = listed(self.url), self.answer()
+            for word, (would, changed) in calls.items():
+                with self.subTest(before=before, word=word):
+                    words = ["--dry-run", word, "app", self.checkout]
+                    said = self.published(*words)[1][0]
+                    line = f"app at {self.url} would have {would}, {changed}"
+                    self.assertEqual(said, f"nothing was uploaded, as --dry-run asks: {line}")
+                    found = json.loads(self.published("--json", *words)[1][0])
+                    self.assertEqual((found["there"], found["uploaded"]), (changed, None))
+                    self.assertEqual((listed(self.url), self.answer()), there)
 
     def test_what_is_refused(self) -> None:
         """Nothing is uploaded, and one line, or the server's own lines of a faulty dump, say
@@ -576,6 +614,8 @@ class Publish(OnCheckout):
             )
             self.assertEqual(status, 0, stages)
             self.assertRegex(printed[0], f"^{database}: {said}$")
+            if words[-1] == "other":
+                self.assertIn(f" {printed[0].split()[2]} tags", stages)
             with Program(self.program).serve(database) as server:
                 self.assertEqual(len(listed(server.url)), projects)
                 at = {"uri": "file:///src/tr/crate/src/lib.rs", "line": 17, "character": 11}
@@ -735,6 +775,7 @@ class Publish(OnCheckout):
             ("wait", signal.SIGINT, 130),
             (f"cat {RAW}", 0, 0),
             ("exit 3", 0, 2),
+            ("wait", signal.SIGKILL, -9),  # which leaves files
         )
         for last, number, wanted in rows:
             with self.subTest(last, number=number):
@@ -757,7 +798,7 @@ class Publish(OnCheckout):
                 while left := [pid for pid in found if is_running(int(pid))]:
                     self.assertLess(time.monotonic(), until, left)
                     time.sleep(0.05)
-                self.assertEqual(os.listdir(temporary), [])
+                self.assertEqual(bool(os.listdir(temporary)), number == signal.SIGKILL)
 
 
 class Parts(unittest.TestCase):

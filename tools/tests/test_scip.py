@@ -18,6 +18,7 @@ from codenav import limits
 from codenav.cli.prepare import PREPARE
 from codenav.dumps.check.followed import Graph
 from codenav.dumps.check.lines import Dump
+from codenav.dumps.scip.occurrences import Stay
 from codenav.dumps.scip.scip_pb2 import Index
 from tests.test_why import ANSWERS, TOP, found
 
@@ -141,6 +142,15 @@ def place_list(graph: Graph) -> list[list[Any]]:
         [place["uri"], *place["start"].values(), *place["end"].values()]
         for place in map(graph.place, graph.homes)
     ]
+
+
+class Places(unittest.TestCase):
+    def test_shared(self) -> None:
+        """A place that has one symbol isn't shared, nor is the one around the whole document."""
+        around, several = (0, 90), ("a", "b")
+        symbols = {(0, 3): ("a",), (4, 9): several, around: ("c", "d"), (10, 12): ("e", "f")}
+        self.assertEqual([*Stay([], symbols, around, 0).shared()], [several, ("e", "f")])
+        self.assertEqual([*Stay([], {around: several}, None, 0).shared()], [several])
 
 
 class Scip(unittest.TestCase):

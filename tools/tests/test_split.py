@@ -9,6 +9,7 @@ import unittest
 from typing import Any
 from unittest import mock
 
+from codenav import limits
 from codenav.cli.explain import WHY
 from codenav.sets import files, manifest
 from codenav.sets.split import chains, cuts, flattening, split
@@ -79,6 +80,28 @@ class Split(unittest.TestCase):
     def firsts(self) -> list[str]:
         """The first document of each part."""
         return [part.first for part in self.head().parts]
+
+    def test_elements_that_are_too_long(self) -> None:
+        """Bytes count: the server takes no line over a limit of them."""
+        most = limits.MOST_LINE_BYTES
+        for text, is_long in (
+            ("x" * (most - 1000), False),
+            ("x" * most, True),
+            ("\u00e9" * (most // 2 - 1000), False),
+            ("\u00e9" * (most // 2), True),
+        ):
+            elements = made({"file:///a": 1})
+            hover = len(elements) + 1, {"type": "vertex", "label": "hoverResult"}
+            elements.append({"id": hover[0], **hover[1], "result": {"contents": text}})
+            own = next(one["id"] for one in elements if one["label"] == "resultSet")
+            ends = {"outV": own, "inV": hover[0]}
+            elements.append(
+                {"id": hover[0] + 1, "type": "edge", "label": "textDocument/hover", **ends}
+            )
+            with self.subTest(text[:1], length=len(text)):
+                status, said = self.split(body_of(elements))
+                self.assertEqual(status, 2 if is_long else 0, said[:200])
+                self.assertEqual("an element has over 1048576 bytes (L01): " in said, is_long)
 
     def test_refused(self) -> None:
         """What isn't a prepared dump is one line, with status 2, and nothing is written."""

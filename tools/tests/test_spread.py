@@ -6,6 +6,8 @@ import json
 import multiprocessing
 import os
 import random
+import subprocess
+import sys
 import tempfile
 import threading
 import unittest
@@ -500,6 +502,21 @@ class Called(OnServers):
             "places",
         )
         self.assertEqual([place["project"] for place in found], [code, user])
+
+
+class Measured(unittest.TestCase):
+    def test_equal_answers(self) -> None:
+        """What measures surfaces finds equal answers: `joins`, and `ten` of three sets."""
+        with tempfile.TemporaryDirectory() as folder:
+            dumps = [os.path.join(folder, f"{name}.lsif") for name in ("crate", "user")]
+            for dump in dumps:
+                with open(dump, "wb") as file:
+                    file.write(crate(os.path.basename(dump).removesuffix(".lsif")))
+            for part, *counts in ("joins", "3"), ("ten", "3", "5"):
+                script = [os.path.join(TOP, "bench", "spread.py"), part, program(), *counts]
+                words = [sys.executable, "-B", *script, *dumps]
+                done = subprocess.run(words, capture_output=True, text=True, check=False)
+                self.assertEqual(done.returncode, 0, done.stdout + done.stderr)
 
 
 class Stops(Store):

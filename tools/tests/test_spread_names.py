@@ -6,8 +6,10 @@ import tempfile
 import unittest
 from contextlib import redirect_stderr, redirect_stdout
 from typing import Any
+from unittest import mock
 
 from codenav.asking.all_servers import names_of_all
+from codenav.asking.index import Index
 from codenav.cli.ask import ASK
 from codenav.client.fetch import fetch_from
 from codenav.program import Program, free_port
@@ -25,6 +27,24 @@ SECONDS = 60
 def line(name: str, file: str, number: int) -> bytes:
     """A line of a tags file."""
     return f'{name}\t{file}\t{number};"\tf\n'.encode()
+
+
+class Requests(unittest.TestCase):
+    def test_those_of_a_set(self) -> None:
+        """One server is asked once for the tags of a set, several for those of each part."""
+        for is_spread, projects in (False, [None]), (True, ["a", "b"]):
+            asked: list[Any] = []
+
+            def fetch(path: str, parameters: dict[str, Any], member: str) -> Any:
+                asked.append(parameters.get("project"))
+                return []
+
+            index, head = Index("code", fetch), mock.Mock()
+            head.parts = [mock.Mock(project=own) for own in "ab"]
+            head.is_spread.return_value = is_spread
+            index.sets.heads["code"], index.sets.projects["code"] = head, {"a", "b"}
+            self.assertEqual(index.tags_of_parts({"name": "x"}), [])
+            self.assertEqual(asked, projects)
 
 
 class TwoServers(unittest.TestCase):

@@ -1,5 +1,6 @@
 """Tests of the texts of source files: byte order marks, UTF-16, and what is neither it nor UTF-8."""
 
+import contextlib
 import os
 import tempfile
 import unittest
@@ -7,6 +8,7 @@ import unittest
 from codenav.faults import BadCall
 from codenav.texts.columns import UTF_8, UTF_16, UTF_32, Columns
 from codenav.texts.decoded import MOST_BYTES, decoded, is_read_as, lines_of, read_text, text_of
+from codenav.texts.places import shown
 
 TEXT = "caf\u00e9 = \U0001F600;\r\nx\n"
 READ: list[tuple[bytes, str]] = [
@@ -74,6 +76,17 @@ class Texts(unittest.TestCase):
         for body, encoding, line, character, units in COUNTED:
             with self.subTest(body, encoding=encoding, at=(line, character)):
                 self.assertEqual(Columns(encoding, body).units(line, character), units)
+
+    def test_shown(self) -> None:
+        """A path is printed from the folder of the call where it lies there."""
+        with tempfile.TemporaryDirectory() as folder, contextlib.chdir(folder):
+            for path, text in (
+                (os.path.join(folder, "a/b.c"), "a/b.c"),
+                (os.path.join(folder, "..b.c"), "..b.c"),
+                (os.path.dirname(folder), os.path.dirname(folder)),
+                ("/no/b.c", "/no/b.c"),
+            ):
+                self.assertEqual(shown(path), text)
 
     def test_files(self) -> None:
         with tempfile.TemporaryDirectory() as folder:

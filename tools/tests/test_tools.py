@@ -593,6 +593,8 @@ class Upload(unittest.TestCase):
         request."""
         for body, said in (
             (b"", "neither a dump nor a tags file"),
+            (b"\xef\xbb\xbfx\ta.c\t1\n", "it begins with a byte order mark: "),
+            ('{"id":1}'.encode("utf-16"), "it begins with a byte order mark: "),
             (b"<html>\n<a>\t</a>", "neither a dump nor a tags file"),
             (b"\x0a\x05\x0a\x03a\tb", "a SCIP index: `codenav prepare` makes the dump"),
             (b"\x1f\x8b\x08", "packed: `codenav prepare` makes the dump"),

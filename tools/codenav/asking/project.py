@@ -87,7 +87,8 @@ class Project:
             except NotThere as new:
                 fault = new
             except NoReply as refusal:
-                fault = self.told(refusal, place.uri, path)
+                lacking = self.today.lacking(self.name, place.fault)
+                fault = self.told(refusal, place.uri, path, lacking)
             is_places = what not in NO_PLACES
             if not self.is_as_before(found or [] if is_places else [], path):
                 continue
@@ -159,17 +160,20 @@ class Project:
         """The address of a document, by its file as it is today or by itself."""
         return uri_of(path, self.today.maps) if os.path.isabs(path) else path
 
-    def told(self, fault: NoReply, uri: str, path: str) -> NoReply:
+    def told(self, fault: NoReply, uri: str, path: str, lacking: str = "") -> NoReply:
         """A fault with the address that was asked, and of a document that isn't there with what can
-        be done."""
+        be done, or is lacking to know what its file was called."""
         text = f"{fault}: {uri}"
-        if str(fault) != f"{NO_DOCUMENT} no such document":
-            return NoReply(text)
+        is_project = str(fault) == f"{NO_DOCUMENT} no such document"
         folder = self.versions.folder(self.name)
-        if folder and below(folder, uri) is None:
+        if is_project and folder and below(folder, uri) is None:
             return NoReply(
                 f"{text}: the project's documents are below {folder}, and --map {map_words(folder, 'FOLDER')} says where these are here"
             )
+        if lacking and fault.code() == NO_DOCUMENT:
+            return NoReply(f"{text}: what the file was called isn't known: {lacking}")
+        if not is_project:
+            return NoReply(text)
         if folder or os.path.isabs(path) and is_mapped(path, self.today.maps):
             which = "" if folder else f", which --map makes of {path}"
             return NoReply(f"{text}{which}: the project has no such document")

@@ -112,7 +112,7 @@ class Names:
             yield from ((number, Found(None, CHANGED)) for number in tags)
             return
         lines = readable_lines(asked, to.path or path)
-        if lines and to.fault:
+        if lines or asked.today.lacking(project, to.fault):
             asked.today.tell(to.fault)
         mapped = dict(mapped_of(to, tags))
         if any(place is None for place, _ in mapped.values()):

@@ -11,7 +11,7 @@ from codenav.asking.project import Project, Reply
 from codenav.asking.tags import Names, Tag
 from codenav.cli.asking import Asking, add_asking, add_by_name
 from codenav.cli.command import Command
-from codenav.cli.options import Help, add_server, first_place, named_all
+from codenav.cli.options import Help, add_server, first_place, named_all, number
 from codenav.cli.show import Shown
 from codenav.client.fetch import fetch_from
 from codenav.client.http import SECONDS
@@ -81,7 +81,7 @@ def tags_of(call: AskCall, settings: Settings, project: Project) -> list[Tag]:
     tags = index.names(parameters, call.all_projects)
     if not tags and not call.all_projects and not has_dump(index) and not has_tags(index):
         raise NoReply(
-            f"{settings.project} isn't known to {settings.server}: it has no dump, and no tags that `codenav publish` made"
+            f"{settings.project} has neither a dump at {settings.server} nor tags that `codenav publish` made: it may not be there"
         )
     return tags
 
@@ -214,8 +214,8 @@ def add_place(parser: argparse.ArgumentParser, kind: str) -> None:
     if kind == "definition":
         add_by_name(parser)
     parser.add_argument("file", metavar="FILE")
-    parser.add_argument("line", metavar="LINE", type=int)
-    parser.add_argument("column", metavar="COLUMN", type=int)
+    parser.add_argument("line", metavar="LINE", type=number)
+    parser.add_argument("column", metavar="COLUMN", type=number)
 
 
 def add_names(parser: argparse.ArgumentParser, _: str) -> None:

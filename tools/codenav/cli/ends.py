@@ -1,5 +1,6 @@
 """How a call of a tool ends."""
 
+import codecs
 import io
 import os
 import signal
@@ -10,9 +11,11 @@ from typing import Any, Callable, NoReturn
 
 from codenav.faults import Fault
 from codenav.files import STANDARD_OUTPUT, of_file
-from codenav.printed import line
+from codenav.printed import MARK, line
 
 CLOSED_PIPE = 128 + signal.SIGPIPE
+MARKED = "marked"
+"""How the standard error has what isn't text."""
 
 
 class Unfailing(io.FileIO):
@@ -26,6 +29,12 @@ class Unfailing(io.FileIO):
             return memoryview(body).nbytes
 
 
+def marked(fault: UnicodeError) -> tuple[bytes, int]:
+    """A mark for each of the characters that aren't any, as a name has them that isn't UTF-8."""
+    assert isinstance(fault, UnicodeEncodeError)
+    return MARK.encode() * (fault.end - fault.start), fault.end
+
+
 def open_standard() -> None:
     """Has what isn't there of the standard input, output and error be there, so that no file takes
     its number: a call that reads or writes it meets a fault."""
@@ -37,7 +46,8 @@ def open_standard() -> None:
     sys.stdin = sys.stdin or open(0, encoding="utf-8", closefd=False)
     sys.stdout = sys.stdout or open(1, "w", encoding="utf-8", closefd=False)
     error = io.BufferedWriter(Unfailing(2, "w", closefd=False))
-    sys.stderr = io.TextIOWrapper(error, "utf-8", "backslashreplace", write_through=True)
+    codecs.register_error(MARKED, marked)
+    sys.stderr = io.TextIOWrapper(error, "utf-8", MARKED, write_through=True)
 
 
 class Signalled(BaseException):

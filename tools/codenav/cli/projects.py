@@ -8,7 +8,8 @@ from codenav.cli.command import Command
 from codenav.cli.options import add_retry, add_server
 from codenav.client.http import address, found_in, request_again
 from codenav.client.projects import listed, removed
-from codenav.names import PARTS, SET, own_project, server_of, stored_name
+from codenav.faults import BadCall
+from codenav.names import PART, PARTS, SET, own_project, server_of, shown_name, stored_name
 from codenav.sets.listed import by_names
 from codenav.sets.manifest import ABOUT
 from codenav.sets.publish.base import remove_set
@@ -58,19 +59,25 @@ def add_remove(parser: argparse.ArgumentParser) -> None:
     parser.add_argument("project", metavar="PROJECT", help="a project or a set, as `list` names it")
 
 
+def is_set(server: str, name: str, retry: bool) -> bool:
+    """Whether there is a set of the name."""
+    asked = address(server, "/names", {"name": f"{ABOUT}set", "project": name + PARTS})
+    return bool(found_in(request_again(asked, "GET", retry=retry), "tags"))
+
+
 def removed_set(server: str, name: str, retry: bool) -> int:
     """Removes a set, and answers how many parts it had; none where there is no set of the name."""
-    if not SET.fullmatch(name):
+    if not SET.fullmatch(name) or not is_set(server, name, retry):
         return 0
-    asked = address(server, "/names", {"name": f"{ABOUT}set", "project": name + PARTS})
-    is_there = found_in(request_again(asked, "GET", retry=retry), "tags")
-    return remove_set(Store(server, retry), name) if is_there else 0
+    return remove_set(Store(server, retry), name)
 
 
 def remove(call: RemoveCall) -> int:
     """Removes what has a name, a project or a set, and says whether there was something."""
     server, shown = server_of(call.url), name_of(call.project)
     name = own_project(stored_name(shown))
+    if (part := PART.fullmatch(name)) and is_set(server, part["set"], call.retry):
+        raise BadCall(f"{name!r} is the name of a part of the set {shown_name(part['set'])!r}")
     was_project = removed(server, name, call.retry)
     parts = removed_set(server, name, call.retry)
     was_there = was_project or parts > 0

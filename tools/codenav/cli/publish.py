@@ -3,7 +3,6 @@
 import argparse
 import os
 import sys
-import tempfile
 from contextlib import contextmanager
 from dataclasses import dataclass
 from typing import Any, Iterator, Optional, Sequence
@@ -13,7 +12,7 @@ from codenav.cli.options import URL_HELP, add_words, named_all, url_in
 from codenav.cli.published import as_json, counted, documents, not_uploaded, table, uploaded
 from codenav.cli.show import Shown
 from codenav.faults import BadCall
-from codenav.files import whole_file
+from codenav.files import new_folder, whole_file
 from codenav.index.indexers import INDEXERS
 from codenav.names import shown_name
 from codenav.printed import line as printed
@@ -23,6 +22,7 @@ from codenav.publishing.made import How, Made, Refused
 from codenav.publishing.making import Making
 from codenav.publishing.send import Sent, send
 from codenav.publishing.target import Target, target_at
+from codenav.publishing.there import there_at
 from codenav.service import digests
 from codenav.service.folder import locked
 from codenav.service.locks import holder_of
@@ -55,7 +55,7 @@ FLAGS = {
     "--set": "make a set of parts, as is done by itself of a dump that is too large for one project",
     "--servers-that-join": "the surface goes to those of the servers alone that have a set which imports or exports something of one of its packages",
     "--more": "keep the type definitions, monikers, folding ranges and links of an LSIF dump too, for `lsp`, where it has room for them",
-    "--dry-run": "make and check all, and upload nothing",
+    "--dry-run": "make and check all, upload nothing, and say what is there that it would replace",
     "--write-settings": f"write FOLDER's {FILE} with what is published, unless it has other settings",
     "--overwrite": "with --write-settings, other settings too",
     "--json": "print what was done as JSON",
@@ -68,6 +68,7 @@ class PublishCall(How):
 
     servers: str = ""
     servers_that_join: bool = False
+    dry_run: bool = False
     keep: Optional[str] = None
     database: Optional[str] = None
     write_settings: bool = False
@@ -129,7 +130,7 @@ def work_folder(kept: Optional[str]) -> Iterator[str]:
         os.makedirs(kept, exist_ok=True)
         yield os.path.abspath(kept)
         return
-    with tempfile.TemporaryDirectory(prefix="codenav-publish-") as folder:
+    with new_folder("codenav-publish-") as folder:
         yield folder
 
 
@@ -174,7 +175,7 @@ def publish_to_file(call: PublishCall, database: str) -> int:
         raise BadCall(
             "--database takes neither a server nor several, --dry-run or --write-settings"
         )
-    program, call.dry_run = Program.needed(call.program), True
+    program, call.is_alone = Program.needed(call.program), True
     target, place = target_at(NOWHERE, project, (), False, call.set), os.path.dirname(database)
     if not os.path.isdir(place):
         raise BadCall(f"{place}: not a folder")
@@ -210,23 +211,25 @@ def run_publish(call: PublishCall) -> int:
     target = target_at(url, project, servers, call.servers_that_join, call.set)
     with Shown(TOOL, True) as shows:
         making, sent, settings = Making(folder, target, call, shows), None, ""
-        if not call.dry_run:
+        there = there_at(target) if call.dry_run else None
+        call.is_alone = there is not None and bool(there.fault)
+        if there is None:
             target.reach()
         try:
             with work_folder(call.keep) as work:
                 made = making.make(work)
                 if call.write_settings:
                     settings = settings_of(url, target, made, call.overwrite)
-                sent = None if call.dry_run else send(made, target, shows)
+                sent = send(made, target, shows) if there is None else None
         except Refused as fault:
             for line in str(fault).splitlines():
                 shows.warn(line)
             return 1
     if sent is not None:
         say(call, made, sent, target, settings)
-    for line in not_uploaded(made, target) if sent is None and not call.json else ():
+    for line in not_uploaded(made, target, there) if there and not call.json else ():
         print(printed(line))
-    for line in [as_json(made, sent, target)] if call.json else table(made.left_out):
+    for line in [as_json(made, sent, target, there)] if call.json else table(made.left_out):
         print(printed(line))
     return 2 if sent is not None and sent.away else 0
 

@@ -9,6 +9,7 @@ from codenav.names import set_name, shown_name
 from codenav.publishing.made import Made, Row
 from codenav.publishing.send import Sent
 from codenav.publishing.target import Target
+from codenav.publishing.there import There
 from codenav.settings.checkout import plain
 from codenav.texts.places import map_words
 
@@ -34,15 +35,16 @@ def uploaded(made: Made, sent: Sent, target: Target) -> Iterator[str]:
     yield f"codenav remove {plain(target.home)} {shown_name(target.project)} removes it again"
 
 
-def not_uploaded(made: Made, target: Target) -> Iterator[str]:
-    """What a call that uploads nothing would upload."""
+def not_uploaded(made: Made, target: Target, there: There) -> Iterator[str]:
+    """What a call that uploads nothing would upload, and what becomes of what is there."""
     what = [
         "tags" if one.part == "tags" else f"a dump, profile {one.profile}" for one in made.bodies
     ]
     if made.files is not None:
         what = [f"{len(made.files.head.parts)} parts, in profile {made.profile}"]
     name, where = shown_name(target.project), plain(target.home)
-    yield f"nothing was uploaded, as --dry-run asks: {name} at {where} would have {' and '.join(what)}"
+    would = f"{name} at {where} would have {' and '.join(what)}, {there.changed(made, target)}"
+    yield f"nothing was uploaded, as --dry-run asks: {would}"
 
 
 def documents(made: Made) -> Iterator[str]:
@@ -65,13 +67,15 @@ def table(rows: Sequence[Row]) -> list[str]:
     return [f"{what:{first}}  {count:>{second}}  {why}" for what, count, why in cells]
 
 
-def as_json(made: Made, sent: Optional[Sent], target: Target) -> str:
-    """What was done, for programs; `uploaded` is null where nothing was to be."""
+def as_json(made: Made, sent: Optional[Sent], target: Target, there: Optional[There] = None) -> str:
+    """What was done, for programs; `uploaded` is null where nothing was to be, and `there` says then
+    what becomes of what is there."""
     found: dict[str, Any] = {"project": target.project, "uploaded": None, "set": None}
     found["profile"] = made.profile or None
     if sent is not None:
         found["uploaded"] = [vars(one) for one in sent.accepted]
         found["set"] = sent.report and vars(sent.report)
+    found["there"] = there and there.changed(made, target)
     found["documents"], found["revision"] = made.where, made.commit or None
     found["left_out"] = [
         {"what": row.what, "count": row.number, "why": row.why} for row in made.left_out

@@ -12,6 +12,7 @@ from codenav.cli.options import URL_HELP, add_retry, add_words, url_in
 from codenav.client.http import refusal_of, reply_in
 from codenav.client.projects import fresh_key, once_key
 from codenav.dumps.dump import HEAD_BYTES, is_index, profile_in
+from codenav.dumps.lsif.reading import MARKS
 from codenav.dumps.packed import GZIP, ZSTD, opened
 from codenav.faults import BadCall, NoReply
 from codenav.names import key_of, new_project, server_of, shown_name
@@ -70,6 +71,9 @@ def part_of(file: IO[bytes], name: str) -> str:
     if is_index(head) or head.startswith((GZIP, ZSTD)):
         what = "a SCIP index" if is_index(head) else "packed"
         raise BadCall(f"{name}: {what}: `codenav prepare` makes the dump that the server takes")
+    if head.startswith(tuple(mark for mark, _ in MARKS)):
+        text = "a tags file has none, and `codenav prepare` makes a dump without it"
+        raise BadCall(f"{name}: it begins with a byte order mark: {text}")
     if head.lstrip()[:1] in (b"{", b"["):
         return "lsif"
     if b"\t" not in head.partition(b"\n")[0]:

@@ -152,9 +152,10 @@ class Indexing:
 
     def answers(self, language: Language, way: Way, given: Given, packages: Packages) -> Answers:
         """What is answered of a language. Raises BadCall."""
-        if isinstance(way, Pass):
-            return way.answers(given)
         before = self.before.get(language.name, Kept())
+        if isinstance(way, Pass):
+            found, self.after[language.name] = way.answers(given, before)
+            return found
         server = Server(language, way, given, packages, self.lines, before)
         found = server.answers()
         self.after[language.name] = server.after

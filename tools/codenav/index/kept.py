@@ -10,21 +10,24 @@ from codenav import VERSION
 from codenav.faults import BadCall
 from codenav.index.answers import Answers, At, Name, Place
 from codenav.index.packages import text_in
+from codenav.texts.decoded import body_of
 from codenav.texts.places import path_of
 
-FORM = f"codenav index {VERSION}, 1"
+FORM = f"codenav index {VERSION}, 2"
 
 
 @dataclass(slots=True)
 class Known:
     """What was answered of a document: the digest of its text, its words and where they lead, the names
-    that it declares, and the errors that the server found in it."""
+    that it declares, the errors that the server found in it, and the digest of what others hold by.
+    """
 
     digest: str
     words: list[Place] = field(default_factory=list)
     leads: dict[Place, list[Place]] = field(default_factory=dict)
     names: dict[At, Name] = field(default_factory=dict)
     errors: list[str] = field(default_factory=list)
+    surface: str = ""
 
 
 @dataclass(slots=True)
@@ -37,14 +40,29 @@ class Asked:
 
 
 @dataclass(slots=True)
+class Said:
+    """What a pass answered of a document, as JSON, which is empty where it's to be asked again: by the
+    digest of its file, the addresses of the files that it read for that, and the names of those
+    that it looked for."""
+
+    digest: str
+    read: list[str] = field(default_factory=list)
+    names: list[str] = field(default_factory=list)
+    body: bytes = b""
+
+
+@dataclass(slots=True)
 class Kept:
-    """What a server answered, which holds as long as its key is the same: of documents of the folder, of
-    those outside by the stamps of their files, and of symbols."""
+    """What was answered, which holds as long as its key is the same: of documents of the folder, of
+    those outside by the stamps of their files, and of symbols; what a pass said of documents, and what
+    is to be minded of it."""
 
     key: str = ""
     documents: dict[str, Known] = field(default_factory=dict)
     outside: dict[str, Known] = field(default_factory=dict)
     symbols: dict[Place, Asked] = field(default_factory=dict)
+    said: dict[str, Said] = field(default_factory=dict)
+    minds: list[str] = field(default_factory=list)
 
     def add_to(self, found: Answers, uris: Iterable[str]) -> None:
         """Adds to answers what is known of documents."""
@@ -59,6 +77,14 @@ class Kept:
 def digest_of(text: str) -> str:
     """The digest of a text."""
     return hashlib.sha256(text.encode("utf-8", "surrogatepass")).hexdigest()
+
+
+def digest_of_file(path: str) -> str:
+    """The digest of a file's bytes; empty where it can't be read."""
+    try:
+        return hashlib.sha256(body_of(path)).hexdigest()
+    except BadCall:
+        return ""
 
 
 def stamp_of(path: Optional[str]) -> str:
@@ -88,12 +114,16 @@ class Written:
         """Writes a line."""
         self.out.write(json.dumps(parts, separators=(",", ":")).encode() + b"\n")
 
+    def uri(self, uri: str) -> int:
+        """An address by its number."""
+        if uri not in self.uris:
+            self.uris[uri] = len(self.uris)
+            self.line("uri", uri)
+        return self.uris[uri]
+
     def place(self, place: Place) -> list[int]:
         """A place by its numbers."""
-        if place.uri not in self.uris:
-            self.uris[place.uri] = len(self.uris)
-            self.line("uri", place.uri)
-        return [self.uris[place.uri], *place[1:]]
+        return [self.uri(place.uri), *place[1:]]
 
     def write(self, language: str, kept: Kept) -> None:
         """Writes what is kept of a language."""
@@ -106,11 +136,15 @@ class Written:
                     for word, places in one.leads.items()
                 ]
                 names = [[*at[1:], *name] for at, name in one.names.items()]
-                self.line(kind, uri, one.digest, words, leads, names, one.errors)
+                self.line(kind, uri, one.digest, words, leads, names, one.errors, one.surface)
         for symbol, asked in kept.symbols.items():
             places = [self.place(to) for to in asked.implementations]
             own, word = self.place(symbol), self.place(asked.word)
             self.line("symbol", own, word, asked.hover, places)
+        self.line("minds", *kept.minds)
+        for uri, said in kept.said.items():
+            self.line("said", uri, said.digest, list(map(self.uri, said.read)), said.names)
+            self.out.write(said.body + b"\n")
 
 
 def read(path: str) -> dict[str, Kept]:
@@ -151,8 +185,14 @@ def lines_of(file: BinaryIO) -> Iterator[tuple[str, Kept]]:
         elif kind == "symbol":
             own, word, hover, places = parts
             kept.symbols[place(own)] = Asked(place(word), hover, list(map(place, places)))
+        elif kind == "minds":
+            kept.minds = parts
+        elif kind == "said":
+            uri, digest, read_for, names = parts
+            body = next(file, b"").removesuffix(b"\n")
+            kept.said[uri] = Said(digest, [uris[number] for number in read_for], names, body)
         elif kind != "form":
-            uri, digest, words, leads, names, errors = parts
+            uri, digest, words, leads, names, errors, surface = parts
             documents = kept.documents if kind == "document" else kept.outside
             documents[uri] = Known(
                 digest,
@@ -163,6 +203,7 @@ def lines_of(file: BinaryIO) -> Iterator[tuple[str, Kept]]:
                     for at, start, around, name, number, size, detail in names
                 },
                 errors,
+                surface,
             )
     if language:
         yield language, kept

@@ -12,6 +12,7 @@ from codenav.index.again import Depends, by_includes, by_leads
 from codenav.index.answers import Answers
 from codenav.index.building import DATABASES, FLAGS, Building
 from codenav.index.given import Document, Given
+from codenav.index.kept import Kept
 from codenav.index.packages import (
     Package,
     c_package,
@@ -21,6 +22,7 @@ from codenav.index.packages import (
     pip_package,
 )
 from codenav.index.python import line as python
+from codenav.index.surfaces import go_surface
 from codenav.index.typescript import checker
 
 DIAGNOSTICS, HIGHLIGHTS = "textDocument/publishDiagnostics", "$ccls/publishSemanticHighlight"
@@ -60,12 +62,12 @@ class ServerKind(NamedTuple):
 
 class Pass(NamedTuple):
     """What answers of all documents of a language at once: how it's called, Debian's packages of it,
-    what of it isn't installed, and its answers of a folder."""
+    what of it isn't installed, and its answers of a folder, with what is kept of them."""
 
     line: str
     package: str
     lacks: Callable[[], str]
-    answers: Callable[[Given], Answers]
+    answers: Callable[[Given, Kept], tuple[Answers, Kept]]
 
 
 Way = Union[ServerKind, Pass]
@@ -76,7 +78,8 @@ class Language(NamedTuple):
     answers of it, the first that's installed; what is at the top of a folder where it's built, and
     what is missed where none of that is there; the indexer that comes before these; its packages'
     manager, and the package of a folder; what depends on a file that changed; whether a type
-    implements another by what it has alone; and what says to its servers how files are built.
+    implements another by what it has alone; what says to its servers how files are built; and what
+    of a text other files hold by.
     """
 
     name: str
@@ -90,6 +93,7 @@ class Language(NamedTuple):
     depends: Depends = by_leads
     is_structural: bool = False
     building: Building = Building()
+    surface: Callable[[str], str] = str
 
 
 LANGUAGES = (
@@ -134,6 +138,7 @@ LANGUAGES = (
             variables=("GOPACKAGESDRIVER", "PKG_CONFIG"),
             lines=(("go", "env", *GO_VARIABLES.split()),),
         ),
+        surface=go_surface,
     ),
     Language(
         "Python",

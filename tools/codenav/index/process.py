@@ -31,8 +31,11 @@ class Lost(Exception):
 
 
 def need_room(folder: str) -> None:
-    """Raises OSError where there's no room for a server's files."""
-    with of_file(tempfile.gettempdir()), tempfile.TemporaryFile(dir=folder) as file:
+    """Raises OSError where there's no room for a server's files. The folder is in that of the call,
+    which may be gone then, so what has that one is named."""
+    with of_file(os.path.dirname(os.path.dirname(folder))), tempfile.TemporaryFile(
+        dir=folder
+    ) as file:
         try:
             os.posix_fallocate(file.fileno(), 0, LEAST_BYTES)
         except OSError as fault:

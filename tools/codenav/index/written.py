@@ -54,9 +54,10 @@ class DumpWriter(Writer):
         several = [*grouped.declared.values(), *grouped.further.values()]
         more = [place for places in several for place in places]
         for place in [*grouped.leads, *grouped.symbols, *implemented, *more]:
-            if not self.monikers.packages.is_elsewhere(place.uri):
-                by_uri.setdefault(place.uri, set()).add(place)
+            by_uri.setdefault(place.uri, set()).add(place)
         for uri, places in by_uri.items():
+            if self.monikers.packages.is_elsewhere(uri):
+                continue
             found = language_of(uri)
             language = found[1] if found else "plaintext"
             self.documents[uri] = self.vertex("document", uri=uri, languageId=language)

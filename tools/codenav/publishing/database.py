@@ -4,15 +4,15 @@ requests from a pipe. So what is too much to upload while others ask is made bes
 
 import os
 import subprocess
-import tempfile
 from typing import Any
 
-from codenav.client.http import Answer, address, found_in, refusal_of
+from codenav.client.http import Answer, address
 from codenav.client.projects import fresh_key
 from codenav.faults import BadCall, NoReply
+from codenav.files import new_folder
 from codenav.program import Program, end_with_parent
-from codenav.publishing.made import Made, Refused
-from codenav.publishing.send import Accepted, Sent
+from codenav.publishing.made import Made
+from codenav.publishing.send import Sent, accepted
 from codenav.sets.publish.base import remove_set
 from codenav.sets.publish.publish import Publish
 from codenav.sets.publish.store import Store
@@ -79,26 +79,23 @@ def put_all(store: Store, made: Made) -> Sent:
     small is a project again."""
     if made.files is not None:
         return Sent(report=Publish(store, made.files.folder, in_place_of_project=True).run())
-    accepted = []
+    found = []
     for body in made.bodies:
         key: dict[str, Any] = {"key": fresh_key(body.part)}
         more = {"profile": body.profile} if body.profile else {}
+        path = f"/projects/{body.project}/{body.part}"
         with open(body.path, "rb") as file:
-            answer = store.ask(
-                "PUT", f"/projects/{body.project}/{body.part}", {**key, **more}, file.read()
-            )
-        if answer.status != 200:
-            raise Refused(refusal_of(answer))
-        accepted.append(Accepted(body.project, body.part, found_in(answer, "count"), body.profile))
+            answer = store.ask("PUT", path, {**key, **more}, file.read())
+        found.append(accepted(body, answer))
         project = body.project
     remove_set(store, project)
-    return Sent(tuple(accepted))
+    return Sent(tuple(found))
 
 
 def publish_into(program: Program, path: str, made: Made) -> Sent:
     """Puts what was made into the database of a path, beside what it has, where it's there: all of
     it or nothing. Raises Refused and BadCall."""
-    with tempfile.TemporaryDirectory(prefix=".codenav-", dir=os.path.dirname(path)) as folder:
+    with new_folder(".codenav-", os.path.dirname(path)) as folder:
         new = os.path.join(folder, "index.db")
         for end in "", LOG:
             if os.path.exists(path + end):

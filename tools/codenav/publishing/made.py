@@ -37,7 +37,7 @@ class Body(NamedTuple):
 class How:
     """How it's made: the dump by a shell's line that indexes, by a known indexer of a name, or from
     a file, or not at all, without documents of some patterns; `profile` is how it's read, empty
-    where the dump says; `program` checks. Nothing is asked of a server where it's a `dry_run`. Of
+    where the dump says; `program` checks. Nothing is asked of a server where it `is_alone`. Of
     packages with these names, `apart`, a surface has nothing that is imported. With `more` what
     else the dump says is kept beside it."""
 
@@ -51,7 +51,7 @@ class How:
     program: Optional[str] = None
     set: bool = False
     revision: Optional[str] = None
-    dry_run: bool = False
+    is_alone: bool = False
     apart: str = ""
     more: bool = False
 

@@ -72,7 +72,7 @@ class Making:
     def make(self, work: str) -> Made:
         """Makes all in a folder, and checks it. Raises Refused, BadCall and NotADump."""
         self.files = list(tags_file.files_of(self.folder))  # without what an indexer leaves there
-        self.is_set = self.is_set or not self.how.dry_run and self.target.has_set()
+        self.is_set = self.is_set or not self.how.is_alone and self.target.has_set()
         raw, bodies, files = self.raw_dump(work), list[Body](), None
         if raw:
             dump = self.prepared_dump(raw, work)
@@ -250,7 +250,7 @@ class Making:
         the set on the server. Raises Refused."""
         name = set_name(self.target.project)
         words = map_words(self.where, os.path.join(self.folder, self.inside))
-        if not self.how.dry_run:
+        if not self.how.is_alone:
             fetch_cuts(Store(self.target.home), name, folder)
         options = SplitOptions(
             name,

@@ -4,7 +4,7 @@ import io
 import os
 from dataclasses import dataclass
 from io import BufferedReader
-from typing import IO, Any, BinaryIO, NamedTuple, Optional, cast
+from typing import IO, Any, BinaryIO, NamedTuple, Optional, Sequence, cast
 
 from codenav.client.http import Answer, found_in, refusal_of, reply_in
 from codenav.client.projects import fresh_key, put
@@ -33,6 +33,14 @@ class Accepted:
     part: str
     count: int
     profile: Optional[str]
+
+
+def accepted(body: Body, answer: Answer, over: Sequence[Excess] = ()) -> Accepted:
+    """What the server accepted of a body, which may be over limits; raises Refused."""
+    if answer.status != 200:
+        raise Refused("\n".join([refusal_of(answer), *map(str, over)]))
+    count = found_in(answer, "count") - (body.part == "tags")  # without the record
+    return Accepted(body.project, body.part, count, body.profile)
 
 
 class Sent(NamedTuple):
@@ -99,11 +107,9 @@ def send_body(server: str, body: Body, shows: Shows) -> Accepted:
         answer, over = put_body(server, body, file, fresh_key(body.part), True)
     if reply_in(answer) is None:
         raise BadCall(refusal_of(answer))
-    if answer.status != 200:
-        raise Refused("\n".join([refusal_of(answer), *map(str, over)]))
+    found = accepted(body, answer, over)
     shows.end(f"{size} bytes")
-    count = found_in(answer, "count") - (body.part == "tags")  # without the record
-    return Accepted(body.project, body.part, count, body.profile)
+    return found
 
 
 def publish_of(target: Target, folder: str) -> Publish:

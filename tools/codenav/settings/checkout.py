@@ -15,7 +15,7 @@ from codenav.settings.found import FILE, found_in_file
 def target_of(url: str, words: list[str]) -> tuple[str, str, str]:
     """The server, the project and the folder of the words `[[URL] PROJECT] [FOLDER]`, of which the
     first may be empty; what they lack is what the settings in the folder say. Raises BadCall."""
-    is_folder = bool(words) and (os.sep in words[0] or words[0] in (os.curdir, os.pardir))
+    is_folder = len(words) == 1 and (os.sep in words[0] or words[0] in (os.curdir, os.pardir))
     project, *rest = ["", *words] if is_folder else words or [""]
     if len(rest) > 1:
         raise BadCall("it takes [[URL] PROJECT] [FOLDER]")

@@ -2,6 +2,7 @@
 no monitor of files, and fetches nothing of a partial clone."""
 
 import os
+import re
 import shutil
 import subprocess
 import tempfile
@@ -11,6 +12,7 @@ from typing import Iterator, Mapping, Optional
 from codenav.faults import BadCall
 
 OTHERS = "GIT_ALTERNATE_OBJECT_DIRECTORIES"
+COMMIT = re.compile(r"[0-9a-f]{40}|[0-9a-f]{64}")
 SECONDS = 10.0
 """For so long git is waited for."""
 NO_ANSWER = "{}: git gives no answer"
@@ -25,9 +27,10 @@ def git(
     seconds: Optional[float] = SECONDS,
     body: bytes = b"",
     variables: Mapping[str, str] = ENVIRONMENT,
+    faults: Optional[list[str]] = None,
 ) -> Optional[bytes]:
-    """What a git command prints, which reads a body; None where it fails, or there is no git.
-    Raises BadCall where it doesn't end in time."""
+    """What a git command prints, which reads a body; None where it fails, or there is no git. Why
+    it fails is added to the faults. Raises BadCall where it doesn't end in time."""
     try:
         done = subprocess.run(
             [*CALL, "-C", folder, *words],
@@ -43,6 +46,8 @@ def git(
         raise BadCall(f"{folder}: git can't be started: {fault.strerror}") from None
     except subprocess.TimeoutExpired:
         raise BadCall(NO_ANSWER.format(folder)) from None
+    if done.returncode and faults is not None:
+        faults += done.stderr.decode(errors="replace").splitlines()[:1]
     return done.stdout if done.returncode == 0 else None
 
 
@@ -119,5 +124,8 @@ def copied_index(top: str) -> Iterator[dict[str, str]]:
 def no_revision(top: str, revision: str) -> str:
     """Why a revision isn't in a repository, in one line."""
     if line_of(git(top, "rev-parse", "--is-shallow-repository")) == "true":
-        return f"{top}: a shallow clone without {revision}: `git fetch --depth 1 origin {revision}` gets it"
+        how = f"`git fetch --depth 1 origin {revision}` gets it"
+        if COMMIT.fullmatch(revision) is None:
+            how = "`git fetch --unshallow --tags` gets all that there is"
+        return f"{top}: a shallow clone without {revision}: {how}"
     return f"{top}: git knows no revision {revision}"

@@ -1,18 +1,19 @@
 """The texts of a git revision, the names that files had there, and the names that they have today.
 
-A repository is asked by one `git cat-file --batch` for texts, and by one more for the names of
-their blobs.
+A repository is asked by one `git cat-file --batch` for texts, and by another for their blobs.
 """
 
 import os
+import re
 import secrets
 import subprocess
 import threading
 import time
 from contextlib import suppress
+from functools import cached_property
 from typing import Callable, Optional, TypeVar
 
-from codenav.faults import BadCall
+from codenav.faults import BadCall, NoFile
 from codenav.records import COMMIT
 from codenav.texts.decoded import decoded
 from codenav.texts.git import (
@@ -22,14 +23,15 @@ from codenav.texts.git import (
     SECONDS,
     checked_top,
     commit_of,
-    copied_index,
     found_in,
     git,
     no_revision,
 )
-from codenav.texts.places import work_tree
+from codenav.texts.places import is_inside, work_tree
+from codenav.texts.renames import Renames
 
 Found = TypeVar("Found")
+ODD = re.compile(r"\n|\r\Z")  # of a name that can't be a line for `git cat-file --batch`
 FRESH = 5.0
 """Seconds for which it stands that git didn't find something."""
 AWAY = 60.0
@@ -125,9 +127,7 @@ class Revision:
         self.commit, self.led = commit_of(top, revision), found_in(top, f"{revision}^{{commit}}")
         self.names = Batch(self.top, "--batch-check")
         self.blobs = Batch(self.top, "--batch", "--filters")
-        self.old_names: dict[str, str] = {}
-        self.new_names: dict[str, str] = {}
-        self.listed = -FRESH
+        self.renames = Renames(self.top)
         self.read: dict[str, tuple[float, str]] = {}
 
     def follow(self) -> None:
@@ -138,7 +138,7 @@ class Revision:
         led = words[0].decode() if words[1:2] == [b"commit"] else ""
         if led != self.led:
             self.commit, self.led = commit_of(self.top, self.name), led
-            self.old_names, self.new_names, self.listed = {}, {}, -FRESH
+            self.renames.forget()
 
     def end(self) -> None:
         """Ends the processes."""
@@ -159,15 +159,44 @@ class Revision:
         name = self.inside(path)
         return self.base(path, name) + self.new_name(name)
 
+    def old_folder(self, folder: str) -> str:
+        """The path that a folder of today had; its own where the revision has it, or where it's the
+        top of a work tree or outside."""
+        name = self.inside(folder)
+        is_part = (
+            name != os.curdir
+            and is_inside(name)
+            and work_tree(os.path.join(folder, "file")) == self.top
+        )
+        if not is_part or self.found(name)[1:2] == [b"tree"]:
+            return folder
+        return self.base(folder, name) + self.renames.old_folder(self.commit, name)
+
     def base(self, path: str, name: str) -> str:
         """The top of the work tree as a path names it; without links, where there are such behind
         it."""
         is_plain = path.endswith(os.sep + name)
         return path[: -len(name)] if is_plain else self.top + os.sep
 
+    def found(self, name: str) -> list[bytes]:
+        """What the revision has by a name: its object, of which kind it is, and more."""
+        if ODD.search(name):
+            return self.listed_as(name)[:0:-1]
+        return self.names.asked(f"{self.commit}:{name}").split(b" ")
+
+    def listed_as(self, name: str) -> list[bytes]:
+        """What git lists of a name: its mode, its kind and its object; nothing where it has none."""
+        said = git(self.top, "ls-tree", "-z", "--full-tree", self.commit, "--", name) or b""
+        return said.partition(b"\t")[0].split()
+
+    @cached_property
+    def is_partial(self) -> bool:
+        """Whether it's a partial clone, which has no texts but those of what was checked out."""
+        return git(self.top, "config", "--get-regexp", r"^remote\..*\.promisor$") is not None
+
     def blob(self, name: str) -> str:
         """The blob of a file of the revision, or nothing."""
-        words = self.names.asked(f"{self.commit}:{name}").split(b" ")
+        words = self.found(name)
         return words[0].decode() if words[1:2] == [b"blob"] else ""
 
     def text(self, name: str) -> str:
@@ -177,65 +206,41 @@ class Revision:
         self.read = {one: own for one, own in self.read.items() if now - own[0] < FRESH}
         asked = f"{blob} {name}"
         if asked not in self.read:
-            self.read[asked] = now, self.filtered(asked if blob else "", name)
+            self.read[asked] = now, self.filtered(blob, name)
         return self.read[asked][1]
 
-    def filtered(self, asked: str, name: str) -> str:
+    def filtered(self, blob: str, name: str) -> str:
         """What git prints of a blob of that name. Raises BadCall where there is none."""
-        found = self.blobs.asked(asked) if asked else b""
-        _, mark, body = found.partition(b"\n")
-        if not mark:
-            is_gone = self.names.asked(self.commit).endswith(b" missing\n")
-            raise BadCall(
-                no_revision(self.top, self.name) if is_gone else f"{name}: not in {self.name}"
-            )
+        body = self.body(blob, name) if blob else None
+        if body is None:
+            raise self.none(name)
         try:
-            return decoded(body[:-1])
+            return decoded(body)
         except ValueError as fault:
             raise BadCall(f"{name}: {fault} in {self.name}") from None
 
+    def body(self, blob: str, name: str) -> Optional[bytes]:
+        """The bytes of a blob of that name, as a checkout writes it."""
+        if ODD.search(name):
+            return git(self.top, "cat-file", "--filters", f"--path={name}", blob)
+        _, mark, body = self.blobs.asked(f"{blob} {name}").partition(b"\n")
+        return body[:-1] if mark else None
+
+    def none(self, name: str) -> BadCall:
+        """Why a file has no text."""
+        if self.names.asked(self.commit).endswith(b" missing\n"):
+            return BadCall(no_revision(self.top, self.name))
+        if self.is_partial and self.listed_as(name):
+            return BadCall(f"{name}: not fetched, in a partial clone, as it was in {self.name}")
+        return NoFile(f"{name}: not in {self.name}")
+
     def old_name(self, name: str) -> str:
         """The name at the revision of a file of today."""
-        if self.blob(name):
-            return name
-        if name not in self.old_names:
-            self.list_renames()
-        return self.old_names.get(name, name)
+        return name if self.blob(name) else self.renames.old_name(self.commit, name)
 
     def new_name(self, name: str) -> str:
         """The name of today of a file of the revision."""
-        if self.is_there(name):
-            return name
-        if not self.is_there(self.new_names.get(name, name)):
-            self.list_renames()
-        return self.new_names.get(name, name)
-
-    def is_there(self, name: str) -> bool:
-        """Whether there is a file of this name today."""
-        return os.path.lexists(os.path.join(self.top, name))
-
-    def list_renames(self) -> None:
-        """Lists which files have other names today, those that git doesn't know yet among
-        them; not more often than every few seconds."""
-        if time.monotonic() - self.listed < FRESH:
-            return
-        self.old_names, self.new_names = {}, {}
-        fields = iter(os.fsdecode(self.changes()).split("\0"))
-        for status in fields:
-            if status.startswith("R"):
-                old, new = next(fields), next(fields)
-                self.old_names[new], self.new_names[old] = old, new
-            elif status:
-                next(fields)
-        self.listed = time.monotonic()
-
-    def changes(self) -> bytes:
-        """What git says of the files that changed since the revision, by a copy of its index to
-        which new files are added."""
-        words = ["--no-ext-diff", "--ignore-submodules", "--find-renames", "--name-status", "-z"]
-        with copied_index(self.top) as variables:
-            git(self.top, "add", "--intent-to-add", ".", variables=variables)
-            return git(self.top, "diff", *words, self.commit, "--", variables=variables) or b""
+        return self.renames.new_name(self.commit, name)
 
 
 class Checkout:
@@ -275,6 +280,10 @@ class Checkout:
     def old_path(self, path: str) -> str:
         """The path that a file of today had, before it was renamed."""
         return self.of(path).old_path(path)
+
+    def old_folder(self, folder: str, path: str) -> str:
+        """The path that a folder of today had, as far as it's in the work tree of a file."""
+        return self.of(path).old_folder(folder)
 
     def new_path(self, path: str) -> str:
         """The path that a file has today."""

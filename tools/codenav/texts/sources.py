@@ -17,6 +17,10 @@ class Source(Protocol):
         """The path that a file of today had."""
         return path
 
+    def old_folder(self, folder: str, path: str) -> str:
+        """The path that a folder of today had, as far as it's in the work tree of a file."""
+        return folder
+
     def new_path(self, path: str) -> str:
         """The path that a file has today."""
         return path

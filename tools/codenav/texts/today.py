@@ -20,6 +20,7 @@ if TYPE_CHECKING:
     from codenav.texts.revisions import Checkout
 
 Position = tuple[int, int]
+NOT_MAPPED = "; its places aren't mapped"
 MOST_MAPS = 32
 """Maps that are kept, those that were used last."""
 MOST_CHECKOUTS = 8
@@ -129,7 +130,12 @@ class Today:
     def reason(self, project: str) -> str:
         """Why the places of a project aren't mapped for want of a revision, or nothing."""
         revision, why = self.learnt.get(project, ("", ""))
-        return f"{project}: {why}; its places aren't mapped" if why and not revision else ""
+        return f"{project}: {why}{NOT_MAPPED}" if why and not revision else ""
+
+    def lacking(self, project: str, fault: str) -> str:
+        """Of why places aren't mapped, what is lacking of the revision that the index is of; nothing
+        where it's of none."""
+        return "" if fault == self.reason(project) else fault.removesuffix(NOT_MAPPED)
 
     def source(self, project: str, path: str) -> Optional[Source]:
         """Where the texts are that were indexed: as was said, by the settings of the file itself,
@@ -152,21 +158,27 @@ class Today:
             self.said.add(line)
             self.say(line)
 
-    def map_of(self, project: str, path: str) -> tuple[str, FileMap]:
-        """The path that a file of today had, and the map from its text; without one places are as
-        in the index.
+    def map_of(self, project: str, path: str) -> tuple[str, str, FileMap]:
+        """The path that a file of today had, its document's address, and the map from its text;
+        without one places are as in the index.
 
         Raises BadCall where there is no such file.
         """
         source = self.source(project, path)
+        own = path, uri_of(path, self.maps)
         if source is None:
-            return path, FileMap(path, None, self.reason(project))
+            return *own, FileMap(path, None, self.reason(project))
         try:
-            old = source.old_path(path)
+            old, maps = source.old_path(path), self.old_maps(source, path)
             text = source.text(old)
         except BadCall as fault:
-            return path, FileMap(path, None, f"{fault}; its places aren't mapped")
-        return old, FileMap(path, self.kept_map(path, text, self.read(path)), "", source.label)
+            return *own, FileMap(path, None, f"{fault}{NOT_MAPPED}")
+        text_map = self.kept_map(path, text, self.read(path))
+        return old, uri_of(old, maps), FileMap(path, text_map, "", source.label)
+
+    def old_maps(self, source: Source, path: str) -> Maps:
+        """The maps, with the paths that their folders had in the work tree of a file."""
+        return [(root, source.old_folder(folder, path)) for root, folder in self.maps]
 
     def kept_map(self, path: str, text: str, today: str) -> TextMap:
         """The map from the indexed text of a file to that of today; those that were used last are
@@ -190,7 +202,7 @@ class Today:
         path, line, character = at
         if not os.path.isabs(path):
             return IndexPlace(spelled(path), line, character, "")
-        old, (_, text_map, fault, label) = self.map_of(project, path)
+        _, uri, (_, text_map, fault, label) = self.map_of(project, path)
         place = (line, character) if text_map is None else text_map.backward(line, character)
         if place is None:
             where = f"{shown(path)}:{line + 1}"
@@ -198,16 +210,16 @@ class Today:
                 f"{where}: nothing in the text that was indexed is surely this word ({label})"
             )
         is_same = text_map is None or text_map.is_same
-        return IndexPlace(uri_of(old, self.maps), *place, "" if is_same else label, fault)
+        return IndexPlace(uri, *place, "" if is_same else label, fault)
 
     def document(self, project: str, path: str) -> IndexPlace:
         """What the index knows the whole of a file of today by, or a document by its address. Raises
         BadCall where there is no such file."""
         if not os.path.isabs(path):
             return IndexPlace(spelled(path), 0, 0, "")
-        old, (_, text_map, fault, label) = self.map_of(project, path)
+        _, uri, (_, text_map, fault, label) = self.map_of(project, path)
         is_same = text_map is None or text_map.is_same
-        return IndexPlace(uri_of(old, self.maps), 0, 0, "" if is_same else label, fault)
+        return IndexPlace(uri, 0, 0, "" if is_same else label, fault)
 
     def from_index(self, found: list[dict[str, Any]]) -> list[dict[str, Any]]:
         """The places of an answer as they are today, each with the member `path`, which is None of
@@ -222,7 +234,7 @@ class Today:
             own = str(one.get("project")), str(one["uri"])
             if own != last:
                 path, last = path_of(own[1], self.maps), own
-                file_map = self.map_from(own[0], path) if path else FileMap(None, None)
+                file_map = self.map_from(own[0], path, own[1]) if path else FileMap(None, None)
             rows.append((place_key(one), placed(one, file_map), file_map))
         mapped = {key for key, _, to in rows if to.is_mapped()}
         kept = [row for row in rows if row[2].is_mapped() or row[0] not in mapped]
@@ -235,15 +247,16 @@ class Today:
             self.say(f"{len(gone)} of {count} places changed since {labels}")
         return [place for _, place, _ in kept if place is not None]
 
-    def map_from(self, project: str, path: str) -> FileMap:
-        """Where a file of the index is today, and the map to it."""
+    def map_from(self, project: str, path: str, uri: str = "") -> FileMap:
+        """Where a file of the index, or a document of it, is today, and the map to it."""
         source = self.source(project, path)
         if not source:
             return FileMap(path, None, self.reason(project))
         try:
-            new, text = source.new_path(path), source.text(path)
+            old = path_of(uri, self.old_maps(source, path)) or path
+            new, text = source.new_path(old), source.text(old)
         except BadCall as fault:
-            return FileMap(path, None, f"{fault}; its places aren't mapped")
+            return FileMap(path, None, f"{fault}{NOT_MAPPED}")
         try:
             return FileMap(new, self.kept_map(new, text, self.read(new)), "", source.label)
         except BadCall as fault:

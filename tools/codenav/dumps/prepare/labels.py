@@ -38,4 +38,3 @@ FROM = {
     label: (MONIKER,) if label in ("packageInformation", "attach") else (RANGE, RESULT_SET)
     for label in INTO
 }
-PROPERTIES = {"definitions": 1, "references": 2, "referenceResults": 3, "declarations": 1}

@@ -32,7 +32,6 @@ from codenav.dumps.prepare.labels import (
     NUMBERS,
     OTHER,
     PACKAGE,
-    PROPERTIES,
     RANGE,
     REFERENCE,
     SINGLE,
@@ -72,7 +71,7 @@ class Survey:
         default_factory=lambda: {label: Pairs() for label in ("contains", *SINGLE, *MANY, "other")}
     )
     items: Pairs = field(default_factory=Pairs)
-    properties: bytearray = field(default_factory=bytearray)
+    leads: bytearray = field(default_factory=bytearray)
     inlined: list[tuple[int, Optional[str], list[int]]] = field(default_factory=list)
     edge_ids: "array[int]" = field(default_factory=lambda: array("q"))
     greatest: int = 0
@@ -218,7 +217,7 @@ class Survey:
                 self.inlined.append((number, member if kind == REFERENCE else None, found))
                 for target in found:
                     self.items.add(number, target, row.line)
-                    self.properties.append(PROPERTIES.get(str(member), 0))
+                    self.leads.append(member == "referenceResults")
 
     def edge(self, line: int, label: str, element: Element) -> None:
         """Takes an edge."""
@@ -248,11 +247,10 @@ class Survey:
 
     def item(self, line: int, out: int, targets: list[Any], element: Element) -> None:
         """Takes an `item` edge. What its shard names must come before it too."""
-        role = element.get("property")
-        code = PROPERTIES.get(role, 0) if isinstance(role, str) else 0
+        leads = element.get("property") == "referenceResults"
         for target in targets:
             self.items.add(out, self.numbers.named(target, line), line)
-            self.properties.append(code)
+            self.leads.append(leads)
         shard = shard_of(element)
         if is_id(shard) and self.numbers.of.get(shard) is None:
             self.disorder = self.disorder or line
@@ -288,7 +286,7 @@ def is_sound(own: Any) -> bool:
 def text(own: Any) -> str:
     """An id as a message has it, cut."""
     shown = str(own) if isinstance(own, int) else f'"{own}"'
-    return shown if len(shown) <= 80 else shown[:77] + '..."'
+    return shown if len(shown) <= 80 else shown[:76] + '..."'
 
 
 def digest(*parts: str) -> bytes:

@@ -9,7 +9,6 @@ from codenav.dumps.prepare.labels import DOCUMENT, METADATA, PROJECT, RANGE, SIN
 from codenav.dumps.prepare.plan import DROPPED, KEPT, Options, Plan
 
 ROOTS = (METADATA, PROJECT, DOCUMENT, RANGE)
-LEADS = 3
 
 
 def drop_unreached(plan: Plan, options: Options) -> None:
@@ -51,8 +50,8 @@ def pairs(plan: Plan) -> Iterator[tuple[int, int]]:
         zip(attached.sources, attached.targets), zip(attached.targets, attached.sources)
     )
     items = plan.survey.items
-    for source, target, role in zip(items.sources, items.targets, plan.survey.properties):
-        if role == LEADS:
+    for source, target, leads in zip(items.sources, items.targets, plan.survey.leads):
+        if leads:
             yield source, target
 
 

@@ -1,4 +1,5 @@
-"""Answers of files of Python, as a process of its own: Debian's Python runs the path of this file."""
+"""Answers of files of Python, as a process of its own: Debian's Python runs the path of this file.
+By `paths` it says where that has modules."""
 
 import os
 import sys
@@ -8,4 +9,7 @@ sys.path[0] = os.path.dirname(os.path.dirname(os.path.dirname(os.path.dirname(__
 
 from codenav.index.python.serving import serve
 
-serve(PATHS)
+if sys.argv[1:] == ["paths"]:
+    print(*PATHS, sep="\0")
+else:
+    serve(PATHS)

@@ -26,9 +26,18 @@ class Answering:
         self, modules: Modules, inferring: Optional[Any], alive: Callable[[], None]
     ) -> None:
         self.modules, self.inferring, self.alive = modules, inferring, alive
-        self.values = Values(modules)
+        self.values, self.is_passing = Values(modules), False
 
     def of(self, path: str) -> dict[str, Any]:
+        """What is answered of a file, whatever was asked before, what that is found by, and whether it
+        had a fault that may pass."""
+        self.values, self.is_passing = Values(self.modules), False
+        self.modules.touched.begin()
+        found = self.found(path)
+        touched = self.modules.touched.of_file()
+        return {**found, "touched": touched, "is_passing": self.is_passing}
+
+    def found(self, path: str) -> dict[str, Any]:
         """What is answered of a file."""
         module = self.modules.at(path)
         if module is None:
@@ -68,6 +77,7 @@ class Answering:
         except Exception as fault:  # of a library, at one word
             span = module.spans[at]
             faults.append([at[0], *span, f"{type(fault).__name__}: {fault}"[:200]])
+            self.is_passing |= isinstance(fault, (OSError, MemoryError))
         return list(dict.fromkeys(found))
 
     def at(self, path: str, place: Optional[tuple[int, int]]) -> list[Target]:
@@ -92,7 +102,7 @@ class Answering:
             end = [max(target.length - 1, 1), 0] if (0, 0) in target.spans else [0, 0]
             return [[uri_of(target.path, []), 0, 0, *end]]
         self.values.of_symbol(target)
-        return [self.spot(target.module, at) for at in target.defined()]
+        return [self.spot(target.module, at) for at in self.values.defined(target)]
 
     @staticmethod
     def spot(module: Module, at: tuple[int, int]) -> Spot:
@@ -107,7 +117,7 @@ class Answering:
             text = "\n\n".join(filter(None, [f"module {self.title(target)}", target.text]))
             return {"at": first, "kind": MODULE, "around": [], "name": "", "text": text[:MOST_TEXT]}
         around = target.scope.path()
-        taken = set(target.defined())
+        taken = set(self.values.defined(target))
         declared = [self.spot(target.module, at) for at in target.declared if at not in taken]
         own: dict[str, Any] = {"at": first, "more": more, "declared": declared}
         own |= {"kind": self.kind(target), "text": target.text[:MOST_TEXT], "name": target.name}

@@ -76,13 +76,15 @@ class Binder(ast.NodeVisitor):
             self.bound(symbol)
         return symbol
 
-    def use(self, name: str, at: At) -> None:
+    def use(self, name: str, at: At) -> Use:
         """Notes a name that is used."""
         key = self.scope.mangled(name)
         known = self.scope.names.get(key)
         is_bound = known is not None and (known.places or known.declared or known.imports)
         is_early = self.scope.kind != "function" and not is_bound
-        self.words[at] = Use(self.scope, key, is_early, known is not None and not known.sure)
+        found = Use(self.scope, key, is_early, known is not None and not known.sure)
+        self.words[at] = found
+        return found
 
     def bound(self, symbol: Symbol) -> None:
         """Keeps whether a name is bound in any case."""

@@ -2,29 +2,59 @@
 leave open: it infers what values are."""
 
 import os
-from typing import Any, Iterable, Iterator, Optional, Sequence
+from typing import Any, Callable, Iterable, Iterator, Optional, Sequence
 
 import jedi
 from jedi.api.classes import Name
 from jedi.api.environment import InterpreterEnvironment
+from jedi.inference import InferenceState
+from jedi.inference.compiled.subprocess import functions
 from jedi.inference.gradual import typeshed
 
 from codenav.index.python.modules import Module, Modules
 from codenav.index.python.source import At
+from codenav.index.python.touched import Touched
 from codenav.texts.decoded import body_of, lines_in
 
 Found = tuple[str, Optional[At]]
 """A file, and where it has a name; None for the file itself."""
 
 
-def without_stubs(names: Iterable[str]) -> None:
+def without_stubs(names: Iterable[str], touched: Touched) -> None:
     """Takes the sources of modules as they are: stubs of them elsewhere would catch the answers."""
     tops, loaded = set(names), typeshed.try_to_load_stub_cached
 
     def load(state: Any, names: Sequence[str], *rest: Any, **more: Any) -> Any:
+        touched.names.add(names[0])
         return None if names[0] in tops else loaded(state, names, *rest, **more)
 
     typeshed.try_to_load_stub_cached = load
+
+
+def with_names(touched: Touched) -> None:
+    """Keeps which modules are looked for, and in which folders."""
+    looked = functions.get_module_info
+
+    def look(state: Any, **how: Any) -> Any:
+        touched.names.add(how["string"].rpartition(".")[2])
+        touched.around.update(map(str, how.get("path") or how.get("sys_path") or ()))
+        return looked(state, **how)
+
+    functions.get_module_info = look
+
+
+def with_one_text(text_of: Callable[[str], Optional[str]]) -> None:
+    """Has files be the same texts where they're imported as where they're asked of: what is parsed of
+    a path is kept, and another text of it would change that."""
+    parse = InferenceState.parse_and_get_code
+
+    def parsed(state: Any, code: Any = None, **how: Any) -> Any:
+        file = how.get("file_io")
+        if code is None and file is not None:
+            code = text_of(str(file.path))
+        return parse(state, code, **how)
+
+    InferenceState.parse_and_get_code = parsed
 
 
 class Project(jedi.Project):  # type: ignore[misc]
@@ -50,7 +80,9 @@ class Jedi:
         jedi.settings.cache_directory = kept
         jedi.settings.dynamic_params_for_other_modules = False
         own = [os.path.basename(path) for path in modules.tops()]
-        without_stubs(name.removesuffix(".py") for name in own)
+        without_stubs((name.removesuffix(".py") for name in own), modules.touched)
+        with_names(modules.touched)
+        with_one_text(self.text)
 
     def open(self, module: Module) -> None:
         """Takes a file to be asked of."""
@@ -58,16 +90,23 @@ class Jedi:
         if root not in self.projects:
             own = [root, self.modules.folder, *self.modules.others]
             self.projects[root] = Project(root, own, self.modules.paths)
-        text = body_of(module.path).decode(module.encoding)
-        lines = lines_in(text)
-        for (line, start), other in module.soft:
-            lines[line] = lines[line][:start] + other + lines[line][start + len(other) :]
         self.script = jedi.Script(
-            "\n".join(lines),
+            self.text(module.path),
             path=module.path,
             project=self.projects[root],
             environment=self.environment,
         )
+
+    def text(self, path: str) -> Optional[str]:
+        """The text of a file of the folder, as jedi reads it; None for another one, and for one that isn't
+        read."""
+        module = self.modules.at(path) if self.modules.is_own(path) else None
+        if module is None:
+            return None
+        lines = lines_in(body_of(module.path).decode(module.encoding))
+        for (line, start), other in module.soft:
+            lines[line] = lines[line][:start] + other + lines[line][start + len(other) :]
+        return "\n".join(lines)
 
     def found(self, at: At, is_set: bool) -> list[Found]:
         """Where a name leads; for an attribute that is set what the value before the dot has by it."""

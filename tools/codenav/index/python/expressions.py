@@ -8,6 +8,9 @@ LITERALS: dict[type[ast.expr], str] = {
 }
 """The classes of what is written out."""
 
+USE = "use"
+"""The attribute of a name in the syntax that says how it's used there."""
+
 
 def last_name(node: ast.expr) -> str:
     """The last name of what is called or named."""

@@ -1,9 +1,9 @@
 """What is known of the values of names: by what they're bound to, and by what annotations say."""
 
 import ast
-from typing import Iterable, Union
+from typing import Iterable, Optional, Union
 
-from codenav.index.python.expressions import LITERALS, last_name
+from codenav.index.python.expressions import LITERALS, USE, last_name
 from codenav.index.python.modules import Module
 from codenav.index.python.names import Names, Target, distinct
 from codenav.index.python.scopes import Class, Code, Function, Instance, Scope, Symbol, Value
@@ -71,7 +71,8 @@ class Known(Names):
     def word(self, scope: Scope, node: Union[ast.Name, ast.Attribute]) -> Word:
         """The word that an expression ends by."""
         if isinstance(node, ast.Name):
-            return Use(scope, scope.mangled(node.id))
+            use: Optional[Use] = getattr(node, USE, None)
+            return use or Use(scope, scope.mangled(node.id))
         return Member(scope, node.value, scope.mangled(node.attr), False)
 
     def of_target(self, target: Target) -> list[Value]:

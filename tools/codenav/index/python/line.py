@@ -7,6 +7,7 @@ import sys
 
 from codenav.index.answers import Answers
 from codenav.index.given import Given
+from codenav.index.kept import Kept
 
 SYSTEM = "/usr/bin/python3"
 """Debian's Python, which sees Debian's modules where another one is first on the path."""
@@ -20,8 +21,9 @@ def lacks() -> str:
     return "" if shutil.which(PYTHON) else "python3"
 
 
-def answers(given: Given) -> Answers:
-    """What is answered of a folder's files. Raises BadCall where the process doesn't start."""
+def answers(given: Given, kept: Kept) -> tuple[Answers, Kept]:
+    """What is answered of a folder's files, of which what hasn't changed is kept. Raises BadCall where
+    the process doesn't start."""
     from codenav.index.python import asking  # which has the kinds of servers, of the languages
 
-    return asking.answers(given)
+    return asking.answers(given, kept)

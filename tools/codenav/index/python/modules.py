@@ -9,6 +9,7 @@ from codenav.faults import BadCall
 from codenav.index.python.reading import Reader
 from codenav.index.python.scopes import Import, Scope, Symbol
 from codenav.index.python.source import At, Source, Unread
+from codenav.index.python.touched import Touched
 from codenav.index.python.words import Bound, Led, Word
 from codenav.texts.decoded import body_of
 from codenav.texts.places import units
@@ -89,6 +90,7 @@ class Modules:
         self.kept = dict[str, Optional[Module]]()
         self.faults = dict[str, Unread]()
         self.others = list[str]()
+        self.touched = Touched(folder)
 
     def tops(self) -> Iterator[str]:
         """The files and the folders of the modules that are imported from the folder, or from one in
@@ -109,6 +111,7 @@ class Modules:
 
     def at(self, path: str) -> Optional[Module]:
         """The module of a file or a folder; None where that can't be read."""
+        self.touched.file(path)
         if path not in self.kept:
             module = Module(path)
             self.kept[path] = module
@@ -122,6 +125,7 @@ class Modules:
     @lru_cache(maxsize=None)
     def entries(self, folder: str) -> frozenset[str]:
         """The names in a folder."""
+        self.touched.around.add(folder)
         try:
             return frozenset(os.listdir(folder or "."))
         except OSError:
@@ -144,8 +148,10 @@ class Modules:
     def root(self, path: str) -> str:
         """The folder that the module of a file is imported from."""
         folder = os.path.dirname(path)
+        self.touched.around.add(folder)
         while os.path.isfile(os.path.join(folder, "__init__.py")):
             folder = os.path.dirname(folder)
+            self.touched.around.add(folder)
         return folder
 
     @lru_cache(maxsize=None)
@@ -169,6 +175,7 @@ class Modules:
 
     def child(self, module: Module, name: str) -> Optional[Module]:
         """A module of a package."""
+        self.touched.names.add(name)
         found = self.below(module.package, name) if module.package else None
         return self.at(found) if found else None
 
@@ -177,11 +184,13 @@ class Modules:
         parts: Iterable[str] = filter(None, name.split("."))
         if level == 0:
             first = next(iter(parts), "")
+            self.touched.names.add(first)
             path = self.top(self.root(base.path), first)
         else:
             path = os.path.dirname(base.path)
             for _ in range(level - 1):
                 path = os.path.dirname(path)
+            self.touched.names.add(os.path.basename(path))
             path = self.below(os.path.dirname(path), os.path.basename(path))
         module = self.at(path) if path else None
         for part in parts:

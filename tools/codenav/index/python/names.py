@@ -1,10 +1,12 @@
 """Where names lead by Python's own rules of scopes and imports."""
 
 import ast
+from collections import defaultdict
 from typing import Callable, Iterable, Optional, TypeVar, Union
 
 from codenav.index.python.modules import Module, Modules, constants
 from codenav.index.python.scopes import Import, Symbol
+from codenav.index.python.source import At
 from codenav.index.python.words import Use
 
 Target = Union[Symbol, Module]
@@ -28,13 +30,15 @@ def loads(package: Module, name: str) -> bool:
 
 
 class Names:
-    """Where names lead. What leads to itself by a circle adds nothing."""
+    """Where names lead, and the imports that lead nowhere. What leads to itself by a circle adds
+    nothing."""
 
     def __init__(self, modules: Modules) -> None:
         self.modules = modules
         self.kept = dict[tuple[object, ...], list[Target]]()
         self.active = set[tuple[object, ...]]()
         self.circles = 0
+        self.unresolved = defaultdict[Symbol, set[At]](set)
 
     def once(self, key: tuple[object, ...], make: Callable[[], list[Target]]) -> list[Target]:
         """What is made for a key, which is kept where no circle left something out."""
@@ -64,13 +68,17 @@ class Names:
             before = self.circles
             to = self.of_import(own)
             if not to and self.circles == before:
-                symbol.unresolved.append(own.at)
+                self.unresolved[symbol].add(own.at)
                 to = [symbol]
             found += to
         if not found and symbol.imports and len(self.active) == 1:
-            symbol.unresolved += [own.at for own in symbol.imports]
+            self.unresolved[symbol] |= {own.at for own in symbol.imports}
             found.append(symbol)
         return found
+
+    def defined(self, symbol: Symbol) -> list[At]:
+        """Where a symbol is defined itself, or by imports that lead nowhere, or else declared."""
+        return sorted({*symbol.places, *self.unresolved[symbol]}) or symbol.declared[:1]
 
     def of_import(self, own: Import) -> list[Target]:
         """What an import leads to."""

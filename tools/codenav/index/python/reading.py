@@ -5,7 +5,7 @@ from typing import Optional, Union
 
 from codenav.index.python.binding import Binder
 from codenav.index.python.embedded import fields_of, quoted
-from codenav.index.python.expressions import last_name, small
+from codenav.index.python.expressions import USE, last_name, small
 from codenav.index.python.scopes import Class, Code, Function, Instance, Scope, Symbol
 from codenav.index.python.source import Source
 from codenav.index.python.words import Keyword, Member
@@ -62,7 +62,7 @@ class Reader(Binder):
         if isinstance(node.ctx, ast.Store):
             self.bind(node.id, at)
             return
-        self.use(node.id, at)
+        setattr(node, USE, self.use(node.id, at))
         if isinstance(node.ctx, ast.Del):
             self.touched(node.id).sure = False
 

@@ -55,13 +55,12 @@ class Symbol:
     """What is bound to a name in a scope, or to an attribute of a class, at however many places.
     `places` define it, `declared` says what it is alone, `imports` lead on; `values` are what is
     known of what it is, `aliases` the expressions that it's bound to, and `annotation` what says what
-    it is; `unresolved` are the imports among the places that lead nowhere. `self_of` is what a method
-    has as its first parameter; `sure` says whether its scope binds it in any case, and never takes it
-    back."""
+    it is. `self_of` is what a method has as its first parameter; `sure` says whether its scope binds it
+    in any case, and never takes it back."""
 
     __slots__ = (
         *("name", "module", "scope", "places", "declared", "imports", "values", "aliases"),
-        *("self_of", "text", "unresolved", "sure", "annotation"),
+        *("self_of", "text", "sure", "annotation"),
     )
 
     def __init__(self, name: str, scope: "Scope") -> None:
@@ -71,12 +70,8 @@ class Symbol:
         self.aliases = list[Code]()
         self.self_of: Union[Class, Instance, None] = None
         self.annotation: Optional[Code] = None
-        self.text, self.unresolved = "", list[At]()
+        self.text = ""
         self.sure: Optional[bool] = None
-
-    def defined(self) -> list[At]:
-        """Where it's defined itself, or else declared."""
-        return sorted({*self.places, *self.unresolved}) or self.declared[:1]
 
 
 class Scope:

@@ -62,6 +62,9 @@ class Serving:
         files = [os.path.join(folder, os.fsdecode(name)) for name in names]
         roots = {modules.root(path) for path in files if path.endswith("/__init__.py")}
         modules.others = sorted(roots - {folder})
+        modules.touched.ignored = settings["kept"]
+        modules.touched.around.update(self.paths)
+        sys.addaudithook(modules.touched.heard)
         inferring, lacking = None, []
         try:
             from codenav.index.python.by_jedi import Jedi

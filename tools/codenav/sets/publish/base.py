@@ -61,8 +61,8 @@ class Base:
     def is_own(self, project: str) -> bool:
         """Whether a project has the name of a part that was put for this."""
         match = PART.fullmatch(project)
-        is_of_set = match is not None and match["set"] in (self.name, self.name + SURFACE)
-        return match is not None and is_of_set and match["turn"] == self.turn
+        sets = self.name, self.name + SURFACE
+        return match is not None and match["set"] in sets and match["turn"] == self.turn
 
     def names(self) -> set[str]:
         """The projects that the manifest names."""

@@ -16,11 +16,10 @@ import time
 from dataclasses import dataclass
 from typing import Callable, Iterator, NamedTuple, Optional
 
-from codenav.client.fetch import fetch_from
 from codenav.faults import BadCall, NoReply
 from codenav.names import shown_name
 from codenav.progress import Shows
-from codenav.sets.known import BRIEF, Sets
+from codenav.sets.known import BRIEF
 from codenav.sets.manifest import SURFACE, Head, is_same
 from codenav.sets.publish.kept import Kept, kept_sets
 from codenav.sets.publish.moving import STEPS, Moving
@@ -227,10 +226,10 @@ class Relocation:
     def is_switched(self) -> bool:
         """Whether the front asks the homes of the list for all sets that were put, or of which
         something is to go. A server of before that is away isn't waited for."""
-        fetch, put = fetch_from(self.front.server, BRIEF), self.done["manifests"]
+        front, put = Store(self.front.server, seconds=BRIEF), self.done["manifests"]
         try:
             return all(
-                moving.home.known(name) == mark_of(Sets(fetch).head(name))
+                moving.home.known(name) == front.mark(name)
                 for moving in self.moving
                 for name in [moving.head.name]
                 if name in put or moving.has_left()
@@ -258,11 +257,6 @@ class Relocation:
         count = sum(moving.clear() for moving in self.moving)
         self.shows.end(f"{count} projects")
         return Cleared(moved, count)
-
-
-def mark_of(head: Optional[Head]) -> Optional[str]:
-    """The mark of a manifest, or None where there is none."""
-    return head.mark if head else None
 
 
 def of_revision(head: Head) -> str:

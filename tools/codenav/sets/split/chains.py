@@ -5,6 +5,7 @@ from __future__ import annotations
 
 from typing import Iterator, Optional, Sequence
 
+from codenav.dumps.closure import reached
 from codenav.dumps.tables.graph import KINDS, NONE, RANGE, SET, Graph, Key
 from codenav.faults import NotADump
 from codenav.sets.split.flat import NO_RESULT, Firsts, Flat, Marks
@@ -28,15 +29,11 @@ def moniker_groups(graph: Graph) -> Iterator[list[int]]:
     """The monikers in groups of those that `attach` edges join."""
     seen = bytearray(len(graph.monikers))
     for first in range(len(seen)):
-        if seen[first]:
-            continue
-        seen[first], group = 1, [first]
-        for own in group:
-            for other in graph.attached.get(own, ()):
-                if not seen[other]:
-                    seen[other] = 1
-                    group.append(other)
-        yield group
+        if not seen[first]:
+            group = list(reached(graph.attached, [first])[0])
+            for own in group:
+                seen[own] = 1
+            yield group
 
 
 def marks_of_monikers(graph: Graph, keys: list[int]) -> list[Marks]:

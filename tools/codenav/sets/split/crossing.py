@@ -65,7 +65,6 @@ class Cut:
         self.outers: list[Outer] = [NO_OUTER]
         self.outer_numbers: dict[Outer, int] = {NO_OUTER: 0}
         self.here: dict[tuple[int, int], int] = {}
-        self.copied = 0
         for part in range(self.parts):
             self.take_part(part)
         self.used = [self.used_in(part) for part in range(self.parts)]
@@ -185,7 +184,6 @@ class Cut:
             if around[1]:
                 return firsts, marks, True
             results[request] = around[0]
-            self.copied += 1
         return self.flat.firsts_number(tuple(results)), marks, False
 
     def used_in(self, part: int) -> list[int]:

@@ -7,7 +7,6 @@ dump does: others don't find it in a part.
 """
 
 import hashlib
-from array import array
 from base64 import urlsafe_b64encode
 from typing import Iterable
 
@@ -88,16 +87,9 @@ def least_keys(flat: Flat, wanted: set[Crossing]) -> dict[Crossing, int]:
     return least
 
 
-def first_place(flat: Flat, result: int) -> tuple[int, int]:
-    """The first place of a result: that of its definitions, else of its references; and how many it
-    has."""
-    ranks = flat.places_of(result, 0) or flat.places_of(result, 1)
-    return ranks[0], len(flat.places_of(result, 0)) + len(flat.places_of(result, 1))
-
-
-def all_places(flat: Flat, result: int) -> "tuple[array[int], array[int]]":
-    """The places of a result in both roles."""
-    return flat.places_of(result, 0), flat.places_of(result, 1)
+def first_place(flat: Flat, result: int) -> int:
+    """The first place of a result: that of its definitions, else of its references."""
+    return (flat.places_of(result, 0) or flat.places_of(result, 1))[0]
 
 
 def numbered(flat: Flat, results: list[int]) -> dict[int, int]:
@@ -106,12 +98,13 @@ def numbered(flat: Flat, results: list[int]) -> dict[int, int]:
     is where lines are inserted."""
     by_place: dict[int, list[int]] = {}
     for result in results:
-        by_place.setdefault(first_place(flat, result)[0], []).append(result)
+        by_place.setdefault(first_place(flat, result), []).append(result)
     numbers: dict[int, int] = {}
     count = 0
     for place in sorted(by_place):
         before = None
-        for places, own in sorted((all_places(flat, own), own) for own in by_place[place]):
+        every = (([flat.places_of(own, role) for role in (0, 1)], own) for own in by_place[place])
+        for places, own in sorted(every):
             count += before not in (None, places)
             numbers[own], before = count, places
         count += 1
@@ -132,7 +125,7 @@ def names_of(flat: Flat, wanted: set[Crossing], set_name: str) -> dict[Crossing,
             groups.setdefault((request, f"key {flat.keys[key]!r}"), []).append(result)
     for request, result in wanted:
         if (request, result) not in least:
-            home = flat.document_of(first_place(flat, result)[0])
+            home = flat.document_of(first_place(flat, result))
             groups.setdefault((request, f"document {flat.uris[home]}"), []).append(result)
     names: dict[Crossing, str] = {}
     for (request, group), results in groups.items():

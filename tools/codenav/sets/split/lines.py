@@ -68,6 +68,13 @@ class Counter:
         self.bytes += RANGE_BYTES * len(ranks)
         return self.count - len(ranks) + 1
 
+    def document(self, uri: str, ranks: Sequence[int]) -> int:
+        """A document with ranges; answers the id of the first of these."""
+        own = self.vertex("document", f',"uri":{as_text(uri)}')
+        first = self.ranges(ranks)
+        self.edges("contains", own, range(first, first + len(ranks)))
+        return first
+
     def nexts(self, pairs: Sequence[tuple[int, int]]) -> None:
         """`next` edges, each from one vertex to another."""
         self.count += len(pairs)

@@ -14,7 +14,7 @@ from typing import Any, Callable, Iterable, Optional, Sequence
 
 from codenav.dumps.tables.graph import BY_IMPORT, HOVER, NONE, REFERENCES, RESULTS, Key
 from codenav.sets.split.crossing import Cut
-from codenav.sets.split.lines import ROLE_NAMES, Bound, Counter, Lines, as_text, hover_contents
+from codenav.sets.split.lines import ROLE_NAMES, Bound, Counter, Lines, hover_contents
 
 SCHEME = "codenav-set"
 SetMark = tuple[bool, str]
@@ -59,16 +59,9 @@ class Part:
                 for rank, (meaning, is_place) in enumerate(rows, low)
                 if meaning != NONE or is_place
             ]
-            first = self.document(document, ranks)
+            first = self.out.document(flat.written[document], ranks)
             for own, rank in enumerate(ranks, first):
                 self.own[rank - self.low] = own
-
-    def document(self, document: int, ranks: Sequence[int]) -> int:
-        """A document with ranges; answers the id of the first of these."""
-        own = self.out.vertex("document", f',"uri":{as_text(self.flat.written[document])}')
-        first = self.out.ranges(ranks)
-        self.out.edges("contains", own, range(first, first + len(ranks)))
-        return first
 
     def copied_documents(self) -> None:
         """The documents of other parts with copies of their places, for definitions that are
@@ -85,7 +78,7 @@ class Part:
             if not self.low <= rank < self.high:
                 by_document.setdefault(self.flat.document_of(rank), []).append(rank)
         for document, copied in by_document.items():
-            first = self.document(document, copied)
+            first = self.out.document(self.flat.written[document], copied)
             self.copies.update({rank: own for own, rank in enumerate(copied, first)})
 
     def ids(self, ranks: Iterable[int]) -> list[int]:
@@ -109,18 +102,18 @@ class Part:
 
     def here(self, request: int, result: int) -> Optional[int]:
         """A result with its places in this part, or None where it has none here."""
-        known = self.made.get((request, result), NONE)
-        if known != NONE:
-            return known
-        flat, roles = self.flat, []
-        for role in (0, 1) if request == REFERENCES else (0,):
-            begin, end = flat.bounds(result, role, self.low, self.high)
-            roles.append(flat.places[begin:end])
-        own = self.out.vertex(RESULTS[request]) if any(roles) else None
-        if own is not None:
-            self.items(own, request, roles)
-        self.made[request, result] = own
-        return own
+
+        def make() -> Optional[int]:
+            flat, roles = self.flat, []
+            for role in (0, 1) if request == REFERENCES else (0,):
+                begin, end = flat.bounds(result, role, self.low, self.high)
+                roles.append(flat.places[begin:end])
+            own = self.out.vertex(RESULTS[request]) if any(roles) else None
+            if own is not None:
+                self.items(own, request, roles)
+            return own
+
+        return self.once((request, result), make)
 
     def whole(self, request: int, result: int) -> Optional[int]:
         """A result with all its places."""

@@ -36,10 +36,6 @@ class SurfaceFiles(NamedTuple):
     packages: tuple[str, ...]
     apart: tuple[str, ...] = ()
 
-    def elements(self) -> int:
-        """How many elements its parts have."""
-        return sum(part.elements for part in self.parts)
-
 
 def made_surface(
     dump: str,

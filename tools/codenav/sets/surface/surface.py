@@ -12,12 +12,12 @@ from itertools import groupby
 from typing import BinaryIO, Collection
 
 from codenav.dumps.closure import reached
-from codenav.dumps.tables.graph import HOVER, NONE, REFERENCES, RESULTS, Graph
+from codenav.dumps.tables.graph import HOVER, NONE, PLACE, REFERENCES, RESULTS, Graph
 from codenav.dumps.tables.reader import read_graph
 from codenav.faults import NotADump
 from codenav.files import whole_file
 from codenav.progress import Shows
-from codenav.sets.split.lines import ROLE_NAMES, Lines, as_text
+from codenav.sets.split.lines import ROLE_NAMES, Lines
 from codenav.sets.surface.found import EXPORT, Bearer, bearers, kinds_of_monikers
 
 
@@ -99,15 +99,12 @@ class Surface:
     def write_documents(self) -> None:
         """The documents that have a place, each with these ranges."""
         home = self.graph.home
-        mask = (1 << 32) - 1
-        places = sorted({item & mask for item in self.items}, key=lambda own: (home[own], own))
+        places = sorted({item & PLACE for item in self.items}, key=lambda own: (home[own], own))
         for document, group in groupby(places, key=home.__getitem__):
             if document == NONE:
                 raise NotADump("a range is contained in no document (E01)")
-            own = self.lines.vertex("document", f',"uri":{as_text(self.graph.uris[document])}')
             ranges = list(group)
-            first = self.lines.ranges(ranges)
-            self.lines.edges("contains", own, range(first, first + len(ranges)))
+            first = self.lines.document(self.graph.uris[document], ranges)
             for number, place in enumerate(ranges, first):
                 self.ranges[place] = number
             self.flush()
@@ -121,13 +118,12 @@ class Surface:
             else:
                 self.own_results[result] = self.lines.vertex(RESULTS[request])
             self.flush()
-        mask = (1 << 32) - 1
         for slot, group in groupby(self.items, key=lambda item: item >> 32):
             result, role = divmod(slot, 2)
             more = f',"shard":{self.project}'
             if self.graph.request_of[result] == REFERENCES:
                 more = f',"property":"{ROLE_NAMES[role]}"{more}'
-            ends = [self.ranges[item & mask] for item in group]
+            ends = [self.ranges[item & PLACE] for item in group]
             self.lines.edges("item", self.own_results[result], ends, more)
             self.flush()
 
