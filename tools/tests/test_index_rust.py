@@ -9,6 +9,7 @@ import subprocess
 import unittest
 from collections import defaultdict
 
+from tests import test_index_again
 from tests.test_index import OnFolder, vertices
 
 Spot = tuple[str, int, int]
@@ -139,6 +140,26 @@ pub fn square(side: u8) -> Side { Side { side, pair: super::pair() } }
         short = next(own for own in found if own[0].endswith("shape.rs") and own[1:] == (10, 41))
         self.assertLessEqual({*wanted.pop(short, [])}, {*found[short]})
         self.assertEqual({spot: found.get(spot) for spot in wanted}, wanted)
+
+
+@unittest.skipUnless(is_installed(), "rust-analyzer isn't installed")
+class Files(test_index_again.Again):
+    """A module whose file came, or is gone, is asked for again where it's named."""
+
+    files = {
+        "Cargo.toml": '[package]\nname = "app"\nversion = "0.1.0"\nedition = "2021"\n',
+        "src/lib.rs": "pub mod a;\npub mod other;\npub fn one() -> i32 { a::two() }\n",
+        "src/a.rs": "pub fn two() -> i32 { 2 }\n",
+    }
+
+    def test_files(self) -> None:
+        other = {"src/other.rs": "pub fn three() -> i32 { crate::one() }\n"}
+        missing: tuple[test_index_again.Tree, list[str]] = {}, ["lib.rs:1"]
+        for more, wanted in missing, (other, ["other.rs:0"]), missing:
+            with self.subTest(more=more):
+                self.put({**self.files, **more})
+                self.again()
+                self.assert_answers({("definition", "src/lib.rs", 1, 8): wanted})
 
 
 if __name__ == "__main__":

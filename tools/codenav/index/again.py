@@ -87,12 +87,15 @@ def failing(kept: Kept, documents: list[Document], moved: set[str]) -> set[str]:
 
 
 def by_leads(kept: Kept, documents: list[Document], moved: set[str]) -> set[str]:
-    """What depends on documents where an answer goes on from file to file, and where a file is one of
-    those of its folder: what leads to such depends on one that is new."""
+    """What depends on documents where an answer goes on from file to file."""
+    return leading_far(kept, moved) | failing(kept, documents, moved)
+
+
+def by_packages(kept: Kept, documents: list[Document], moved: set[str]) -> set[str]:
+    """What does where the files of a folder are one package: what leads to such depends on a new one."""
     folders = {os.path.dirname(one.uri) for one in documents if one.uri not in kept.documents}
     beside = {uri for uri in kept.documents if os.path.dirname(uri) in folders}
-    far = leading_far(kept, moved)
-    return far | leading(kept, beside) | failing(kept, documents, moved)
+    return by_leads(kept, documents, moved) | leading(kept, beside)
 
 
 Depends = Callable[[Kept, list[Document], set[str]], set[str]]

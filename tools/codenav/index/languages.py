@@ -8,7 +8,7 @@ from typing import Any, Callable, Mapping, NamedTuple, Optional, Sequence, Union
 
 from codenav.faults import BadCall
 from codenav.index import settings
-from codenav.index.again import Depends, by_includes, by_leads
+from codenav.index.again import Depends, by_includes, by_leads, by_packages
 from codenav.index.answers import Answers
 from codenav.index.building import DATABASES, FLAGS, Building
 from codenav.index.given import Document, Given
@@ -132,6 +132,7 @@ LANGUAGES = (
         "scip-go",
         "gomod",
         go_package,
+        by_packages,
         is_structural=True,
         building=Building(
             ("go.mod", "go.sum", "go.work", "go.work.sum", "vendor/modules.txt"),
