@@ -291,6 +291,9 @@ class Failing(OnFolder):
             "--server=/no/server": "which isn't installed",
             '--server="': "--server '\"': No closing quotation",
             "--server= ": "--server ' ': no program is named",
+            "--server=": "--server '': no program is named",
+            "--package=": "--package : it's 'MANAGER NAME VERSION'",
+            "--state=": "--state '': no file is named",
             "--megabytes=0": "--megabytes 0: it's more than 0",
             "--seconds=nan": "--seconds nan: it's more than 0",
             "--package=api": "--package api: it's 'MANAGER NAME VERSION'",
@@ -532,6 +535,15 @@ int first(struct box *box) {
         names = {one["identifier"] for one in vertices(self.out, "moniker")}
         wanted = {"LIMIT", "kind", "kind.SMALL", "box", "box.kind", "both"}
         self.assertEqual(names, {f"api.h:{name}" for name in wanted})
+
+    def test_errors(self) -> None:
+        """What is said of a file that has errors isn't what else is open."""
+        with open(os.path.join(self.folder, "lone.c"), "w", encoding="utf-8") as file:
+            file.write("int lone(void) { return 1 }\n")
+        status, said = self.index()
+        self.assertEqual(status, 1, said)
+        self.assertIn("lone.c: Expected ';' after return statement", said)
+        self.assertNotIn("available", said)
 
 
 @unittest.skipUnless(shutil.which("ccls"), "ccls isn't installed")

@@ -180,6 +180,9 @@ class StoodIn(Again):
             "": 0,
             '["form","codenav index 0, 0"]\n': 0,
             "no JSON\n": 2,
+            "{}\n": 2,
+            "5\n": 2,
+            "[" * 100000: 2,
             '["lines"]\n': 2,
             "".join([*lines[:-1], "[]\n"]): 2,
         }
@@ -190,6 +193,8 @@ class StoodIn(Again):
                 status, said = self.stood_in("--state", self.state)
                 self.assertEqual(status, wanted, said)
                 self.assertEqual(said.count("\n") == 0, wanted == 2, said)
+                if wanted == 2:
+                    self.assertEqual(said, f"{self.state}: it's no file of what is kept")
         for first, is_known in (lines[0], True), ('["form","codenav index 0, 0"]\n', False):
             with open(self.state, "w", encoding="utf-8") as file:
                 file.writelines([first, *lines[1:]])

@@ -381,12 +381,19 @@ class Publish(OnCheckout):
         """Lines that the server would refuse are left out, and reported."""
         with open(os.path.join(self.checkout, "src", "latin.rs"), "wb") as file:
             file.write(b"fn plain() {}\nfn other() { /* \xe9 */ }\n")
+        for name, text in {"wide.rs": "fn wide() {}\n", "wide.txt": "fn wide\n"}.items():
+            with open(os.path.join(self.checkout, "src", name), "wb") as file:
+                file.write(text.encode("utf-16"))
         status, said, _ = self.published("--no-index", "app", self.checkout)
         self.assertEqual(status, 0)
         self.assertRegex(said[0], "^uploaded app: [0-9]+ tags$")
         self.assertEqual(
             [line.split() for line in said[2:]],
-            [["left", "out", "count", "why"], ["tags", "1", "not", "UTF-8"]],
+            [
+                ["left", "out", "count", "why"],
+                ["tags", "1", "not", "UTF-8"],
+                ["tags", "1", *"files in UTF-16, which ctags doesn't read".split()],
+            ],
         )
         self.assertEqual(listed(self.url), [{"dump": False, "name": "app", "tags": True}])
 

@@ -1,6 +1,7 @@
 """A language server that is asked many things at once: waited for, and started again where it ends
 or hangs. What it leaves unanswered is told, with the reason."""
 
+import re
 import threading
 import time
 from typing import Any, BinaryIO, Iterable, Iterator, Optional
@@ -22,6 +23,8 @@ STEP_SECONDS = 0.2
 ERROR = 1
 STARTING = 4
 """So many times longer than else a server may say nothing at its start."""
+FIXES = re.compile(r" \(fix(?:es)? available\)$", re.MULTILINE)
+"""What clangd says behind an error or doesn't, by what else is open."""
 READY = "ready"
 """The question by which ccls is asked whether it's ready."""
 
@@ -138,7 +141,9 @@ class Conversation:
         elif method == DIAGNOSTICS:
             found = [one for one in params.get("diagnostics", ()) if isinstance(one, dict)]
             self.errors[uri] = [
-                str(one.get("message")) for one in found if one.get("severity", ERROR) == ERROR
+                FIXES.sub("", str(one.get("message")))
+                for one in found
+                if one.get("severity", ERROR) == ERROR
             ]
         elif method == STATUS:
             self.is_quiet = params.get("quiescent") is True

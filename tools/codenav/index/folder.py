@@ -39,9 +39,9 @@ class How:
     server has. A file keeps what was answered, so that only what changed is asked of the servers the
     next time."""
 
-    server: str = ""
-    package: str = ""
-    state: str = ""
+    server: Optional[str] = None
+    package: Optional[str] = None
+    state: Optional[str] = None
     on_server: list[str] = field(default_factory=list)
     limits: Limits = Limits()
 
@@ -55,13 +55,13 @@ class NoAnswers(BadCall):
 
 
 def ways_of(
-    folder: str, documents: dict[str, list[Document]], line: str, notes: Notes
+    folder: str, documents: dict[str, list[Document]], line: Optional[str], notes: Notes
 ) -> list[tuple[Language, Way]]:
     """The languages, and what answers of each; one of which nothing that answers is installed is left
     out. Raises NoLanguage, or BadCall where that's all."""
     if not documents:
         raise NoLanguage(f"{folder}: no file of a language that is known here")
-    if line and len(documents) > 1:
+    if line is not None and len(documents) > 1:
         raise BadCall(f"--server is asked of one language, and here are {' and '.join(documents)}")
     found, faults = list[tuple[Language, Way]](), list[BadCall]()
     for language in LANGUAGES:
@@ -77,12 +77,12 @@ def ways_of(
 
 
 def own_packages(
-    folder: str, languages: Sequence[Language], given: str
+    folder: str, languages: Sequence[Language], given: Optional[str]
 ) -> dict[str, Optional[Package]]:
     """The package that a folder is of for each language: by its manifest, or the one that is given
     for those with its manager, which are all where there's none."""
     own = {one.name: one.package_of(folder) for one in languages}
-    if given:
+    if given is not None:
         package = told(given)
         of_it = [one.name for one in languages if one.manager == package.manager]
         own |= dict.fromkeys(of_it or own, package)
@@ -104,7 +104,7 @@ class Indexing:
         self.own = own_packages(self.folder, languages, how.package)
         own = [one for many in self.documents.values() for one in many]
         self.uris, self.lines = {one.uri for one in own}, Lines(own)
-        self.before, self.after = read(how.state) if how.state else {}, dict[str, Kept]()
+        self.before, self.after = {} if how.state is None else read(how.state), dict[str, Kept]()
 
     def mind(self, text: str) -> None:
         """Notes what may be answered otherwise than is meant."""
@@ -194,7 +194,7 @@ def index(folder: str, out: str, how: How, shows: Shows) -> Outcome:
     with (
         tempfile.TemporaryDirectory(prefix="codenav-index-", ignore_cleanup_errors=True) as work,
         whole_file(out) as file,
-        whole_file(how.state) if how.state else nullcontext() as state,
+        nullcontext() if how.state is None else whole_file(how.state) as state,
     ):
         raw = os.path.join(work, "raw.lsif")
         said = Indexing(folder, how, shows).write(raw, work, state)

@@ -150,13 +150,17 @@ class Written:
 def read(path: str) -> dict[str, Kept]:
     """What a file has, by the names of languages; nothing where there's none, or one of another form.
     Raises BadCall where it's no such file."""
+    if not path:
+        raise BadCall("--state '': no file is named")
     try:
         with open(path, "rb") as file:
             return dict(lines_of(file))
     except FileNotFoundError:
         return {}
-    except (OSError, ValueError, TypeError, LookupError) as fault:
-        raise BadCall(f"{path}: it's no file of what is kept: {fault}") from None
+    except OSError as fault:
+        raise BadCall(f"{path}: {fault.strerror}") from None
+    except (ValueError, TypeError, LookupError, RecursionError):
+        raise BadCall(f"{path}: it's no file of what is kept") from None
 
 
 def lines_of(file: BinaryIO) -> Iterator[tuple[str, Kept]]:
@@ -170,7 +174,7 @@ def lines_of(file: BinaryIO) -> Iterator[tuple[str, Kept]]:
         kind, *parts = json.loads(line)
         if number == 0 and (kind != "form" or parts != [FORM]):
             if kind != "form":
-                raise ValueError("it has another first line")
+                raise ValueError
             return
         if kind == "uri":
             uris += parts

@@ -216,19 +216,20 @@ def language_of(path: str) -> Optional[tuple[Language, str]]:
     return None
 
 
-def installed(language: Language, line: str = "") -> Way:
+def installed(language: Language, line: Optional[str] = None) -> Way:
     """What answers of a language: the first of its own that's installed, or the server that a line
     calls. Raises BadCall where there's none."""
-    try:
-        if line and not shlex.split(line):
-            raise ValueError("no program is named")
-    except ValueError as fault:
-        raise BadCall(f"--server {line!r}: {fault}") from None
-    known = {way.line.split()[0]: way for way in language.ways if isinstance(way, ServerKind)}
-    program = os.path.basename(next(iter(shlex.split(line)), ""))
-    own = ServerKind(line, is_slashed=program in known and known[program].is_slashed)
-    given = known.get(line, own) if line else None
-    ways = (given,) if given else language.ways
+    ways = language.ways
+    if line is not None:
+        try:
+            program = os.path.basename(next(iter(shlex.split(line)), ""))
+        except ValueError as fault:
+            raise BadCall(f"--server {line!r}: {fault}") from None
+        if not program:
+            raise BadCall(f"--server {line!r}: no program is named")
+        known = {way.line.split()[0]: way for way in language.ways if isinstance(way, ServerKind)}
+        is_slashed = program in known and known[program].is_slashed
+        ways = (known.get(line, ServerKind(line, is_slashed=is_slashed)),)
     for way in ways:
         if not way.lacks():
             return way

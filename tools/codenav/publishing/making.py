@@ -6,6 +6,7 @@ from __future__ import annotations
 
 import os
 import shutil
+from contextlib import suppress
 from typing import TYPE_CHECKING, Iterator, Optional, Union, cast
 
 from codenav.addresses import folder_address
@@ -18,6 +19,7 @@ from codenav.faults import BadCall, Unfit
 from codenav.files import whole_file
 from codenav.index import tags_file
 from codenav.index.indexers import Choice, NotInstalled, fitting, indexed, named
+from codenav.index.languages import language_of
 from codenav.names import set_name
 from codenav.outcome import MENDED, Outcome
 from codenav.progress import Shows
@@ -34,6 +36,7 @@ from codenav.sets.publish.store import Store
 from codenav.sets.split.split import SetFiles, SplitOptions, split
 from codenav.sets.surface.made import keep_surface, made_surface, surface_file
 from codenav.texts.checked_out import indexed_at, still_indexed_at
+from codenav.texts.decoded import MARKS
 from codenav.texts.places import map_words, uri_of
 
 if TYPE_CHECKING:
@@ -43,6 +46,7 @@ MISSING = {
     "lsif": "no indexer is known for what is here (--index)",
     "tags": "ctags isn't installed (Debian's universal-ctags)",
 }
+WIDE = "files in UTF-16, which ctags doesn't read"
 
 
 class Making:
@@ -228,7 +232,18 @@ class Making:
             Row("tags", number, tags_file.LEFT_OUT[code])
             for code, number in sorted(left_out.items())
         ]
+        wide = [
+            name for name in self.files if language_of(os.fsdecode(name)) and self.is_wide(name)
+        ]
+        if wide:
+            self.left_out.append(Row("tags", len(wide), WIDE))
         return path if count or may_be_empty else ""
+
+    def is_wide(self, name: bytes) -> bool:
+        """Whether a file is in UTF-16."""
+        with suppress(OSError), open(os.path.join(os.fsencode(self.folder), name), "rb") as file:
+            return file.read(2) in MARKS
+        return False
 
     def split(self, dump: str, tags: str, folder: str) -> SetFiles:
         """Splits a dump or an index and the tags into the parts of a set, which keeps the cuts of
