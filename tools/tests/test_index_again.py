@@ -88,9 +88,9 @@ class Declared(unittest.TestCase):
                 (None, set[str](), not is_plain),
             ):
                 with self.subTest(kind, after=after):
-                    kept = Kept(
-                        documents={"file:///a": Known("", names={("file:///a", 1, 2): one})}
-                    )
+                    at = Place("file:///a", 1, 2, 1, 9)
+                    known = Known("", leads={at: [at]}, names={("file:///a", 1, 2): one})
+                    kept = Kept(documents={"file:///a": known})
                     names = {("file:///a", 8, 2): after} if after else {}
                     self.assertEqual(declared(names, kept, ["file:///a"]), (words, differs))
 
