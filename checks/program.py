@@ -586,7 +586,7 @@ def ends_after_the_reply(peer: socket.socket, _over: threading.Event) -> None:
 
 def sends_on_after_the_reply(peer: socket.socket, over: threading.Event) -> None:
     peer.sendall(PROJECTS)
-    while not over.wait(0.5):
+    while not over.wait(0.05):  # within the second of silence by which the server ends it
         peer.sendall(b"a")
 
 

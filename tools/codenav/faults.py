@@ -21,6 +21,10 @@ class BadCall(Fault):
     """A call that can't be carried out as it was made."""
 
 
+class NoFile(BadCall):
+    """A file that a revision of a repository doesn't have."""
+
+
 class Unfit(BadCall):
     """Something that the server takes neither whole nor in parts."""
 

@@ -19,7 +19,7 @@ TOP = str(Path(__file__).resolve().parents[2])
 # prefix; a package of what a clone built has an empty file of that name and ending beside it
 BUILT, PACKAGED = "crates/codenav/out/codenav", "libexec/codenav/codenav"
 PROVED = ".proved"
-REQUESTS = 1_000_000
+REQUESTS, MOST_PORT = 1_000_000, 65_535
 SECONDS = 10
 END_WITH_PARENT = 1
 NONE = "the program codenav isn't here: CODENAV_PROGRAM names it, or a package or a clone has it"

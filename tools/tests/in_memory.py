@@ -103,25 +103,41 @@ class Killed(BaseException):
 
 
 class Servers:
-    """Servers, and a front over them, which sends what names no project to the first one. `moments`
-    are their states, after each change that was made."""
+    """Servers, and a front over those of a list, or all, which sends what names no project to the
+    first one. `moments` are their states, after each change that was made; `rings` say from which
+    moment on the front goes by which list."""
 
-    def __init__(self, names: Sequence[str]) -> None:
-        self.names, self.ring = list(names), Ring(names)
+    def __init__(self, names: Sequence[str], listed: Sequence[str] = ()) -> None:
+        self.names, self.rings = list(names), [(0, Ring(listed or names))]
         self.moments: list[Moment] = [{name: {} for name in names}]
         self.keys: set[tuple[str, str, str]] = set()
         self.left = -1
 
-    def server_of(self, server: str, project: Optional[str]) -> str:
-        """The server itself, or the one that the front sends to."""
+    @property
+    def ring(self) -> Ring:
+        """By what the front goes now."""
+        return self.rings[-1][1]
+
+    def ring_at(self, at: int) -> Ring:
+        """By what it goes at a moment."""
+        return next(ring for first, ring in reversed(self.rings) if first <= at)
+
+    def switch(self, listed: Sequence[str]) -> None:
+        """Has the front go by another list."""
+        self.moments.append(self.moments[-1])
+        self.rings.append((len(self.moments) - 1, Ring(listed)))
+
+    def server_of(self, server: str, project: Optional[str], at: int) -> str:
+        """The server itself, or the one that the front sends to at a moment."""
         if server != FRONT:
             return server
-        return self.names[0] if project is None else self.ring.home(project)
+        return self.names[0] if project is None else self.ring_at(at).home(project)
 
     def found(self, at: int, server: str, path: str, parameters: dict[str, Any]) -> Any:
         """What a server answers at a moment; raises NoReply."""
         named = path.split("/")[2] if path.startswith("/projects/") else parameters.get("project")
-        return found_in(self.moments[at][self.server_of(server, named)], path, parameters)
+        at %= len(self.moments)
+        return found_in(self.moments[at][self.server_of(server, named, at)], path, parameters)
 
     def change(self, server: str, method: str, path: str, key: str, more: Any) -> None:
         """Makes a change, once for each key of a project; raises Killed where no more may be
@@ -130,7 +146,7 @@ class Servers:
             raise Killed
         self.left -= 1
         _, _, project, *part = path.split("/")
-        server = self.server_of(server, project)
+        server = self.server_of(server, project, len(self.moments) - 1)
         if (server, project, key) in self.keys:
             return
         if more[0] == NO_TAGS:

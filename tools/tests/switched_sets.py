@@ -281,17 +281,19 @@ class History:
         heads = enumerate(map(read_head, manifests))
         self.of_parts = {frozenset(part.digest for part in head.parts): n for n, head in heads}
         self.revisions = {
-            part: [self.revisions_of(moment, part) for moment in servers.moments]
+            part: [self.revisions_of(at, part) for at in range(len(servers.moments))]
             for part in ("dump", "tags")
         }
         self.is_unnamed = [has_unnamed(moment) for moment in servers.moments]
 
-    def revisions_of(self, moment: Moment, part: str) -> set[Optional[int]]:
-        """The revisions that may be answered from: that of the set's manifest, and of a project of
-        the set's name, which are both there while one comes for the other."""
+    def revisions_of(self, at: int, part: str) -> set[Optional[int]]:
+        """The revisions that may be answered from at a moment: that of the set's manifest, where
+        the front asks for it, and of a project of the set's name, which are both there while one
+        comes for the other."""
         found: set[Optional[int]] = set()
-        for state in moment.values():
-            if CODE + PARTS in state:
+        home = self.servers.ring_at(at).home(CODE)
+        for server, state in self.servers.moments[at].items():
+            if server == home and CODE + PARTS in state:
                 tags = state[CODE + PARTS].tags or ()
                 parts = [fields_of(tag)["digest"] for tag in tags if tag["name"] == "\x02part"]
                 found.add(self.of_parts[frozenset(parts)])

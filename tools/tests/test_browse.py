@@ -486,16 +486,14 @@ class Browse(Served, unittest.TestCase):
         self.assertEqual(
             answer,
             {
-                "said": f"2 names; {guessed}; {away}",
-                "names": [
-                    {"name": "run", "place": "src/a.rs:2", "href": "/files/src/a.rs#L2C4"},
-                    {"name": "run", "place": "src/a.rs:2", "href": "/files/src/a.rs#L2C4"},
-                ],
+                "said": f"1 name; {guessed}; {away}",
+                "names": [{"name": "run", "place": "src/a.rs:2", "href": "/files/src/a.rs#L2C4"}],
             },
         )
 
         with mock.patch.object(answers, "MOST_NAMES", 2):
-            for tags, said in (([TAG] * 2, "2 names"), ([TAG] * 3, "the first 2 names")):
+            for count, said in ((2, "2 names"), (3, "the first 2 names")):
+                tags = [{**TAG, "name": f"run-{number}"} for number in range(count)]
                 self.assertEqual(self.asked("/names?prefix=r", {"tags": tags})[1]["said"], said)
 
     def test_names_that_have_a_text(self) -> None:

@@ -2,20 +2,26 @@
 between revisions, searches in texts, what isn't listed, and that nothing of a repository is written
 or run."""
 
+import contextlib
 import json
 import os
 import shutil
 import stat
+import threading
 import unittest
 from html.parser import HTMLParser
 from typing import Any
 from unittest import mock
 from urllib.parse import urlencode
 
-from codenav.browse import searched
+from codenav.browse import folder, history, searched, turns
+from codenav.browse.answers import Browser
 from codenav.browse.changes import aligned, changes
+from codenav.browse.folder import Folder
 from codenav.asking.outlines import ends_of
 from codenav.settings.found import Settings
+from codenav.texts import revisions
+from codenav.texts.git import git
 from codenav.texts.moved.matching import ShortestEdit
 from tests.randomly import check_cases
 from tests.repository import InRepository
@@ -110,6 +116,27 @@ class OfHistory(Served, InRepository):
             if link.startswith(("/compare", "/files")):
                 self.assertEqual(self.got(link)[0], 200, link)
 
+    def test_what_is_no_file_has_no_past(self) -> None:
+        self.write("src/a.rs", "fn one() {}\n")
+        self.write("src/b.rs", "fn one() {}\n")
+        self.write("turned/a.rs", "fn turned() {}\n")
+        self.write("turned/b.rs", "fn one() {}\n")
+        folders = self.commit()
+        shutil.rmtree(os.path.join(self.top, "turned"))
+        self.write("turned", "fn now() {}\n")
+        last = self.commit()
+        os.symlink("src", os.path.join(self.top, "link"))
+        for page in "history", "blame", "compare":
+            for name in "", "src", "src/", "link":
+                self.assertIn("403: not a file", self.page(f"/{page}/{name}", 403))
+            self.assertIn("not a file", self.page(f"/{page}/?revision={last}", 403))
+        for name in "src", "turned":
+            self.assertIn("not a file", self.page(f"/history/{name}?revision={folders}", 403))
+        for query in "", f"?revision={last}":
+            text = Words(self.page(f"/history/turned{query}")).text()
+            self.assertIn(last[:10], text)
+            self.assertIn(folders[:10], text)
+
     def test_pages_of_commits(self) -> None:
         for number in range(70):
             self.write("many.rs", f"{number}\n")
@@ -134,6 +161,21 @@ class OfHistory(Served, InRepository):
         old = self.page(f"/blame/a.rs?revision={self.second}")
         self.assertIn(f'<a href="/files/a.rs?revision={self.second}&amp;at=2.12">one</a>', old)
         self.page("/blame/none.rs", 404)
+
+    def test_git_that_says_of_no_line_whose_it_is(self) -> None:
+        """The page says that the file isn't there where that's so, and else what git says."""
+        self.write("new.rs", "fn one() {}\n")
+        self.assertIn(f"404: new.rs: not in {self.third[:12]}", self.page("/blame/new.rs", 404))
+        self.assertIn("no commit has this file", self.page("/history/new.rs"))
+        self.assertNotIn("no commit has this file", self.page("/history/b.rs"))
+        self.git("config", "blame.ignoreRevsFile", "nosuchfile")
+        body = self.page("/blame/b.rs", 500)
+        self.assertRegex(body, "b.rs: fatal: .*nosuchfile")
+        self.git("config", "--unset", "blame.ignoreRevsFile")
+        self.assertIn(self.first[:10], self.page("/blame/b.rs"))
+        blob = self.git("rev-parse", f"{self.second}:a.rs")
+        os.unlink(os.path.join(self.top, ".git/objects", blob[:2], blob[2:]))
+        self.assertRegex(self.page("/blame/b.rs", 500), "b.rs: .*fatal")
 
     def test_what_differs(self) -> None:
         """In the words of both sides, which lead on in the text that they are of."""
@@ -175,6 +217,54 @@ class OfHistory(Served, InRepository):
                 [f"/{page}/{name}{of}" for page in ("files", "blame", "history", "compare")],
                 path,
             )
+
+    def test_what_a_revision_has(self) -> None:
+        """That it doesn't have a file is said of no other fault: a revision that comes later, a
+        shallow clone and a partial one, a name with a line feed, and what is no text."""
+        none = "have it"
+        with mock.patch.object(revisions, "FRESH", 1e9):
+            self.page("/compare/b.rs?from=zz&to=HEAD", 404)
+            self.git("branch", "zz")
+            body = self.got("/compare/b.rs?from=zz&to=HEAD")[1]
+            self.assertNotIn(none, body)
+        with mock.patch.object(revisions, "FRESH", 0.0):
+            text = Words(self.page("/compare/b.rs?from=zz&to=HEAD")).text()
+        self.assertIn("0 lines added, 0 lines removed", text)
+        self.write("n\nl.rs", "fn one() {}\n")
+        self.write("end\r", "fn one() {}\n")
+        with open(os.path.join(self.top, "bin"), "wb") as file:
+            file.write(b"\xff\0")
+        self.commit()
+        for name in "n%0Al.rs", "end%0D":
+            text = Words(self.page(f"/compare/{name}")).text()
+            self.assertIn("0 lines added, 0 lines removed", text)
+            for link in Words(self.page(f"/history/{name}")).links:
+                if link.startswith(("/compare/", f"/files/{name}?")):
+                    self.page(link)
+            self.page(f"/files/{name}?revision=HEAD")
+        os.unlink(os.path.join(self.top, "bin"))
+        self.assertIn("bin: not a text in HEAD", self.page("/compare/bin", 404))
+        text = Words(self.page("/compare/b.rs?from=HEAD%5E&to=HEAD")).text()
+        self.assertNotIn(none, text)
+
+    def test_what_a_clone_does_not_have(self) -> None:
+        self.git("add", "-A")
+        self.git("commit", "-qm", "last")
+        self.git("config", "uploadpack.allowFilter", "true")
+        for name, words, said in (
+            ("shallow", ("--depth", "1"), "a shallow clone without"),
+            ("partial", ("--filter=blob:none",), "in a partial clone"),
+        ):
+            clone = os.path.join(self.home, name)
+            self.git("clone", "-q", *words, f"file://{self.home}/work", clone)
+            self.stop()
+            self.top = clone
+            self.serve(Settings("http://127.0.0.1:1", "app", clone))
+            links = Words(self.page("/history/b.rs")).links if name == "shallow" else []
+            links.append("/compare/b.rs?from=HEAD%5E&to=HEAD")
+            for link in links:
+                if link.startswith("/compare") and "from=" in link:
+                    self.assertIn(said, self.page(link, 404))
 
     def test_a_word_of_an_old_text_leads_on(self) -> None:
         """A word that the page of what differs has, by the link there."""
@@ -227,6 +317,40 @@ class OfHistory(Served, InRepository):
         with mock.patch.object(searched, "MOST_FOUND", 2):
             self.assertIn("the first 2 lines", self.page("/search?text=one"))
 
+    def test_the_texts_of_all_files_that_are_listed(self) -> None:
+        """Of those that `.gitignore` names too, where git has them, and of checkouts inside; in a
+        folder of a checkout, in one that git leaves out, and in one that is no checkout."""
+        for top in self.top, os.path.join(self.top, "nested"), os.path.join(self.home, "no/in"):
+            os.makedirs(top, exist_ok=True)
+            self.git("init", "-q", top=top)
+            self.write(".gitignore", "*.ign\nout/\nmade/\n", top=top)
+            for name in "sub/y.ign", "out/deep/a.c", "plain.c":
+                self.write(name, "sought\n", top=top)
+            self.git("add", "-f", ".", top=top)
+            self.git("commit", "-qm", "x", top=top)
+            for name in "sub/z.ign", "out/deep/b.c", "made/b.c", "made/c.ign", "new.c":
+                self.write(name, "sought\n", top=top)
+        self.write("c.c", "sought\n", top=os.path.join(self.home, "no"))
+        for name, count in (
+            ("work", 8),
+            ("work/sub", 1),
+            ("work/out", 1),
+            ("work/made", 2),
+            ("no", 5),
+            ("no/in", 4),
+        ):
+            shown = Folder(os.path.join(self.home, name))
+            wanted = []
+            for own in shown.files():
+                with open(os.path.join(shown.top, own), encoding="utf-8") as file:
+                    wanted += [own] * ("sought" in file.read())
+            for is_regex, text in (False, "sought"), (True, "sough[t]"):
+                with self.subTest(name, is_regex=is_regex):
+                    query = searched.Wanted(text, is_regex=is_regex)
+                    found = Browser(shown, Settings("", "app", shown.top)).texts(query, "")
+                    self.assertEqual(sorted(one.file for one in found.rows), sorted(wanted))
+                    self.assertEqual(len(wanted), count)
+
     def test_texts_that_are_not_searched(self) -> None:
         """The page says why it has nothing."""
         line = "Texts are searched by one line, without U+0000."
@@ -252,11 +376,86 @@ class OfHistory(Served, InRepository):
                 "Binary files, UTF-16 and files with U+0000 aren't searched.", page.text()
             )
 
+    def test_a_search_in_a_revision_that_is_not_there(self) -> None:
+        """The page says so, as the others do; of many repositories where none has it."""
+        inner = os.path.join(self.top, "inner")
+        os.mkdir(inner)
+        self.git("init", "-q", top=inner)
+        self.write("a.rs", "two\n", top=inner)
+        self.commit(top=inner)
+        self.git("branch", "own", top=inner)
+        for revision in "nosuch", "-Ofoo", "HEAD^{tree}", self.first[:-1] + "g":
+            query = urlencode({"text": "two", "revision": revision})
+            text = Words(self.page(f"/search?{query}")).text()
+            self.assertIn(f"git knows no revision {revision}", text)
+            self.assertNotIn("0 lines", text)
+        page = Words(self.page("/search?text=two&revision=own"))
+        self.assertIn("/files/inner/a.rs?revision=own#L1C1", page.links)
+        self.assertNotIn("git knows no", page.text())
+
     def test_a_search_that_takes_too_long(self) -> None:
         forever = ("sh", "-c", "exec sleep 100000")
         with mock.patch.object(searched, "SECONDS", 0.1):
             with mock.patch.object(searched, "CALL", forever):
                 self.assertIn("what was found in 0.1 seconds", self.page("/search?text=one"))
+
+    def test_what_a_search_can_not_read(self) -> None:
+        """The page says how many files and folders that is."""
+        path = self.write("closed/c.rs", "one\n")
+        self.assertNotIn("be read", self.page("/search?text=one"))
+        if os.geteuid():
+            for name, said in (path, "1 path"), (os.path.dirname(path), "1 path"):
+                os.chmod(name, 0)
+                try:
+                    text = Words(self.page("/search?text=one")).text()
+                finally:
+                    os.chmod(name, 0o700)
+                self.assertIn(f"; {said} can't be read", text)
+        script = r"printf 'error: \047a\047: Permission denied\nerror: \047b\047: x\n' >&2"
+        with mock.patch.object(searched, "CALL", ("sh", "-c", script)):
+            text = Words(self.page("/search?text=one")).text()
+        self.assertIn("0 lines in 0 files; 2 paths can't be read", text)
+        with mock.patch.object(searched, "CALL", ("sh", "-c", "echo fatal: some fault >&2")):
+            text = Words(self.page("/search?text=one")).text()
+        self.assertIn("git can't search: some fault", text)
+
+    def test_who_asks_for_what_takes_long(self) -> None:
+        """Others go on meanwhile: pages of the same files while git blames, and searches for texts
+        while as many regular expressions as may be are searched for; one more is told to wait."""
+        blaming, go_on = threading.Event(), threading.Event()
+
+        def waiting(*words: Any, **named: Any) -> Any:
+            if "blame" in words:
+                blaming.set()
+                go_on.wait(600)
+            return git(*words, **named)
+
+        statuses: list[int] = []
+        with mock.patch.object(history, "git", waiting):
+            reader = threading.Thread(target=lambda: statuses.append(self.got("/blame/b.rs")[0]))
+            reader.start()
+            try:
+                self.assertTrue(blaming.wait(600))
+                self.page("/files/b.rs")
+            finally:
+                go_on.set()
+                reader.join()
+        self.assertEqual(statuses, [200])
+        with contextlib.ExitStack() as others:
+            others.enter_context(mock.patch.object(turns, "SECONDS", 0.0))
+            for _ in range(2):
+                others.enter_context(searched.AT_ONCE[True].turn())
+            self.assertIn("try again", self.page("/search?text=one&regex=1"))
+            self.assertIn("/files/b.rs#L2C4", Words(self.page("/search?text=one")).links)
+        self.assertIn("/files/b.rs#L2C4", Words(self.page("/search?text=one&regex=1")).links)
+        with contextlib.ExitStack() as others:
+            others.enter_context(mock.patch.object(turns, "SECONDS", 0.0))
+            for _ in range(4):
+                others.enter_context(history.AT_ONCE.turn())
+            self.assertIn("try again", self.page("/blame/b.rs", 503))
+        with mock.patch.object(folder, "MOST_BYTES", 10), mock.patch.object(history, "git") as run:
+            self.page("/blame/b.rs", 403)
+            self.assertFalse(run.called)
 
     def test_texts_that_are_no_utf8(self) -> None:
         """And the character U+0000, in each field of an address."""

@@ -9,7 +9,7 @@ from typing import Any, Iterator
 from unittest import mock
 from urllib.parse import quote
 
-from codenav.browse import colours
+from codenav.browse import colours, folder
 from codenav.browse.changes import changes
 from codenav.browse.drawn import TURNS
 from codenav.browse.pages import linked
@@ -70,6 +70,7 @@ OTHER = {
 class Hostile(Served, InRepository):
     def setUp(self) -> None:
         super().setUp()
+        self.enterContext(mock.patch.object(folder, "SECONDS", 0.0))
         self.serve(Settings("http://127.0.0.1:1", "app", self.top))
         self.addCleanup(self.stop)
 
@@ -204,7 +205,6 @@ class Hostile(Served, InRepository):
                 for entry in entries:
                     if entry.is_file(follow_symlinks=False):
                         os.unlink(entry)
-            self.pages.RequestHandlerClass.browser.folder.left_out = {}  # type: ignore[attr-defined]
             for name in names:
                 self.made(os.fsdecode(name))
             links = self.read("/files/").links

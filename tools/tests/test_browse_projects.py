@@ -5,6 +5,7 @@ import http.client
 import io
 import json
 import os
+import random
 import shutil
 import socket
 import threading
@@ -12,11 +13,12 @@ import unittest
 from contextlib import redirect_stderr
 from typing import Any
 from unittest import mock
+from urllib.parse import urlencode
 
-from codenav.browse import projects
+from codenav.browse import projects, start_page
 from codenav.browse.answers import Browser
 from codenav.browse.folder import Folder
-from codenav.browse.projects import Repositories, checkouts_in, listed_in
+from codenav.browse.projects import Listed, Repositories, checkouts_in, listed_in
 from codenav.browse.server import Pages
 from codenav.cli.browse import BROWSE, BrowseCall, browser_of
 from codenav.client import fetch
@@ -96,6 +98,45 @@ class OfProjects(Served, InRepository):
                 self.assertRegex(page.text(), f"{name} main {commit[:10]} [0-9-]+ {language} 1")
                 self.assertIn(f"/files/{name}", page.links)
 
+    def test_odd_commits_on_the_start_page(self) -> None:
+        """A commit without its fields, and what git writes in other letters: a row each, and the
+        others are shown."""
+        odd = os.path.join(self.home, "made", "odd")
+        os.makedirs(odd)
+        self.git("init", "-q", "-b", "main", top=odd)
+        self.write("a.rs", "fn a() {}\n", top=odd)
+        first = self.commit(top=odd)
+        tree = self.git("write-tree", top=odd)
+        for text in (
+            f"tree {tree}\nparent {first}\n\nnoauthor",
+            f"tree {tree}\nauthor a <a@a> x +0\ncommitter a <a@a> x +0\n\nx",
+            f"tree {tree}\nauthor a <a@a> 1 +0\ncommitter a <a@a> 99999999999999999999 +0\n\nx",
+            "",
+        ):
+            if text:
+                path = self.write("commit", text, top=self.home)
+                words = ("hash-object", "-t", "commit", "-w", "--literally", path)
+                commit = self.git(*words, top=odd)
+                self.git("update-ref", "refs/heads/main", commit, top=odd)
+            else:
+                commit = first
+                self.git("update-ref", "refs/heads/main", first, top=odd)
+                self.git("config", "i18n.logOutputEncoding", "UTF-16", top=odd)
+            repositories = Repositories(
+                [*self.made.listed.values(), Listed("odd", odd, "HEAD", "http://127.0.0.1:1")],
+                Quiet(),
+            )
+            self.addCleanup(repositories.end)
+            for browser in repositories.browser("", False), of_folder(odd):
+                self.stop()
+                self.show(browser)
+                text = Words(self.page("/")).text()
+                self.assertIn(commit[:10], text)
+                for page in "history", "blame":
+                    name = "odd/a.rs" if browser.projects else "a.rs"
+                    self.assertLess(self.got(f"/{page}/{name}")[0], 500)
+            self.assertIn("1 project", text)
+
     def test_files_of_projects(self) -> None:
         self.assertIn(">pour<", self.page("/files/tea/src/lib.rs"))
         self.assertIn("boil():", Words(self.page("/files/kettle/lib.py")).text().replace(" ", ""))
@@ -126,6 +167,35 @@ class OfProjects(Served, InRepository):
             self.assertEqual([row["href"] for row in found], [own])
         self.assertTrue(all(one.startswith("http://127.0.0.1:1/") for one in asked))
 
+    def test_links_at_words(self) -> None:
+        """Without the script too they ask for the file's own project, as it is now."""
+        place = {
+            **PLACE,
+            "project": "kettle",
+            "uri": "file:///ci/kettle/lib.py",
+            "start": {"line": 0, "character": 4},
+            "end": {"line": 0, "character": 8},
+        }
+        for path, project in ("tea/src/lib.rs", "tea"), ("kettle/lib.py", "kettle"):
+            links = [link for link in Words(self.page(f"/files/{path}")).links if "at=" in link]
+            self.assertTrue(links)
+            for link in links:
+                with self.replies({"places": [place]}) as asked:
+                    status, body, headers = self.got(f"/files/{path}{link}")
+                self.assertEqual(status, 303, body)
+                self.assertTrue(headers["Location"].startswith("/files/"))
+                self.assertEqual(
+                    {one.partition("/projects/")[2].split("/")[0] for one in asked}, {project}
+                )
+            if project == "kettle":
+                self.assertEqual(headers["Location"], "/files/kettle/lib.py#L1C5")
+        link = "/files/kettle/lib.py?at=2.5"
+        with open(os.path.join(self.made.top, "kettle/lib.py"), "a", encoding="utf-8") as file:
+            file.write("\n" * 50 + "def more():\n")
+        end = {"start": {"line": 52, "character": 4}, "end": {"line": 52, "character": 8}}
+        with self.replies({"places": [{**place, **end}]}):
+            self.assertEqual(self.got(link)[2]["Location"], "/files/kettle/lib.py#L53C5")
+
     def test_what_a_repository_says_of_itself(self) -> None:
         """Its folders below it count; neither its server nor others do."""
         known = self.made.settings_of(self.made.listed["kettle"])
@@ -147,6 +217,45 @@ class OfProjects(Served, InRepository):
             found = json.loads(self.page("/names?prefix=pour"))["names"]
         self.assertEqual([row["name"] for row in found], ["pour", "to_pour"])
         self.assertTrue(found[0]["href"].startswith("/files/tea/src/lib.rs#L1"))
+
+    def test_only_paths_with_a_text(self) -> None:
+        """They count for names, files and texts alike, from the folder that is shown on."""
+        tags = [
+            {**TAG, "project": "tea", "name": "boil", "address": "1", "file": "src/lib.rs"},
+            {**TAG, "project": "kettle", "name": "boil", "address": "1", "file": "lib.py"},
+            {**TAG, "project": "kettle", "name": "boil", "address": "1", "file": "lib.py"},
+        ]
+        files = "tea/src/lib.rs", "kettle/lib.py"
+        parts = ["tea", "TEA/SRC", "a/src/l", "nowhere", "tea/", "*", "lib", "/", "ttle/l"]
+        drawn = random.Random(7)
+        for file in files * 8:
+            start = drawn.randrange(len(file))
+            parts.append(file[start : drawn.randrange(start + 1, len(file) + 1)])
+        for path in parts:
+            wanted = sorted(file for file in files if path.lower() in file)
+            with self.subTest(path), mock.patch.object(fetch, "request", by_project(tags)):
+                query = urlencode({"text": "boil", "path": path})
+                page = self.page(f"/search?{query}").partition("<h3>Names")[2]
+                page = page.partition("</main>")[0]
+                texts = [link.partition("#")[0] for link in Words(page).links]
+                wanted_twice = [f"/files/{name}" for name in wanted for _ in range(2)]
+                self.assertEqual(sorted(texts), sorted(wanted_twice))
+                query = urlencode({"text": "lib", "path": path})
+                page = self.page(f"/search?{query}").partition("<h3>Files")[2]
+                links = Words(page.partition("<h3>Texts")[0]).links
+                self.assertEqual(sorted(links), sorted(f"/files/{name}" for name in wanted))
+
+    def test_a_tag_of_a_link(self) -> None:
+        """The place is listed once."""
+        os.symlink("lib.py", os.path.join(self.made.top, "kettle/again.py"))
+        tags = [
+            {**TAG, "project": "kettle", "name": "boil", "address": "1", "file": name}
+            for name in ("again.py", "lib.py")
+        ]
+        with mock.patch.object(fetch, "request", by_project(tags)):
+            found = json.loads(self.page("/names?prefix=boil"))
+        self.assertEqual([row["place"] for row in found["names"]], ["kettle/lib.py:1"])
+        self.assertIn("1 name", found["said"])
 
     def test_a_revision_that_goes_on(self) -> None:
         commit = self.change("kettle", "lib.py", "def boil_more():\n    pass\n")
@@ -204,6 +313,22 @@ class OfProjects(Served, InRepository):
             self.commit(top=empty)
             with mock.patch.object(projects, "SECONDS", 0.0):
                 self.assertIn(">now<", self.page("/files/empty/a.rs"))
+
+    def test_a_repository_that_is_gone(self) -> None:
+        """Its files stay, and the first page says why it isn't followed, until it's there again."""
+        where = os.path.join(self.repositories, "tea.git")
+        os.rename(where, f"{where}.away")
+        with mock.patch.object(projects, "SECONDS", 0.0), mock.patch.object(
+            start_page, "SECONDS", 0.0
+        ):
+            page = Words(self.page("/"))
+            self.assertIn("tea not a repository of git", page.text())
+            self.assertIn("/files/tea", page.links)
+            self.assertIn(">pour<", self.page("/files/tea/src/lib.rs"))
+            self.page("/history/tea/src/lib.rs", 404)
+            os.rename(f"{where}.away", where)
+            self.assertRegex(Words(self.page("/")).text(), "tea main [0-9a-f]{10} ")
+            self.page("/history/tea/src/lib.rs")
 
     def test_repositories_are_only_read(self) -> None:
         """Nothing of them changes, and nothing that they name is run, whatever they have."""
@@ -355,6 +480,11 @@ class OfProjects(Served, InRepository):
         for one_reader in readers:
             one_reader.join()
         self.assertEqual(answers, [1] * READERS)
+
+
+def of_folder(folder: str) -> Browser:
+    """What shows a folder of one project."""
+    return Browser(Folder(folder), Settings("http://127.0.0.1:1", "app", folder))
 
 
 def by_project(tags: list[dict[str, Any]]) -> Any:

@@ -25,8 +25,10 @@ from tests.fronts import NOBODY, OWNER, READER, UNLIMITED, USER, Front, fronted,
 from tests.servers import TOP, Relay, program
 from tests.test_uploads import DUMP
 
+NO_ROUTE = b'{"fault":"H06","text":"no such route"}'
 H04 = {"fault": "H04", "text": "body too large"}
 MOST_BYTES = 33_554_432
+MOST_LINE = 32_768
 SECONDS = 60
 REPLY = re.compile(rb"HTTP/1\.1 (\d+)[^\n]*\r\n(?:[^\n]*\r\n)*?Content-Length: (\d+)\r\n\r\n")
 HOVER = "/projects/app/hover?uri=file:///a&line=0&character=0"
@@ -214,9 +216,45 @@ class OfFront:
                 self.assertEqual(found[2], direct.body)
             self.assertGreater(len(direct.body), 3_000_000)
 
-        def test_health_log_and_measures(self) -> None:
-            for method in "GET", "HEAD":
-                self.assertEqual(self.front.ask(method, "/health", login=None)[0], 200)
+        def test_health(self) -> None:
+            """It says that the server answers, and nothing of the index, whoever may read that."""
+            server = self.own_server()
+            body = (DUMP % "own").encode()
+            to = f"http://{server}/projects/own/lsif?key=k"
+            self.assertEqual(request(to, "PUT", io.BytesIO(body), seconds=SECONDS).status, 200)
+
+            def without_readers(text: str) -> str:
+                return text.replace('"~^ read " yes;\n', "")
+
+            every: tuple[Callable[[str], str], ...] = (str, without_readers)
+            for rights in every:
+                front = self.fresh([server], rights=rights)
+                for path in "/health", "/health?a=b", "/%68ealth", "//health":
+                    for method, said in ("GET", b'{"health":"answers"}'), ("HEAD", b""):
+                        status, fields, found = front.ask(method, path, login=None)
+                        self.assertEqual((status, found), (200, said), path)
+                        self.assertEqual(fields["Content-Type"], "application/json")
+
+        def test_health_of_a_server_that_does_not_answer(self) -> None:
+            """One that refuses, and one that says nothing, is 503."""
+            slow = self.enterContext(socket.create_server(("127.0.0.1", 0)))
+            refusing = self.enterContext(socket.create_server(("127.0.0.1", 0)))
+            reply = b"HTTP/1.1 503 Service Unavailable\r\nContent-Length: 2\r\n\r\n{}"
+
+            def refuse() -> None:
+                with suppress(OSError):
+                    while True:
+                        with refusing.accept()[0] as client:
+                            client.recv(65536)
+                            client.sendall(reply)
+
+            threading.Thread(target=refuse, daemon=True).start()
+            for listener in slow, refusing:
+                front = self.fresh([f"127.0.0.1:{listener.getsockname()[1]}"])
+                status, _, body = front.ask("GET", "/health", login=None)
+                self.assertEqual((status, json.loads(body)["fault"]), (503, "front"))
+
+        def test_log_and_measures(self) -> None:
             self.front.ask("GET", "/names?name=logged")
             # it's logged when the reply is out
             stop, found = time.monotonic() + 10, False
@@ -240,6 +278,51 @@ class OfFront:
                 found, fields, body = self.front.ask(method, path)
                 self.assertEqual((found, fields["Content-Type"]), (status, "application/json"))
                 self.assertIn("fault", json.loads(body), path[:9])
+
+        def test_paths_of_its_own(self) -> None:
+            """From outside they're no routes, as any other path is none."""
+            for name in "server", "projects", "unread", "any":
+                for method in "GET", "DELETE":
+                    status, fields, body = self.front.ask(method, f"/-{name}-?key=k")
+                    self.assertEqual((status, body), (404, NO_ROUTE), name)
+                    self.assertEqual(fields["Content-Type"], "application/json")
+
+        def test_what_is_no_request(self) -> None:
+            """It's refused by 400 and JSON, and the log of faults has no line of it."""
+            host = b"Host: x\r\n"
+            front = self.fresh([self.own_server()])
+            texts = [
+                b"\0\r\n\r\n",
+                b"GET / and more\r\n\r\n",
+                b"CONNECT a:443 HTTP/1.1\r\n%b\r\n" % host,
+                b"OPTIONS * HTTP/1.1\r\n%b\r\n" % host,
+                b"GET /projects HTTP/2.0\r\n%b\r\n" % host,
+                b"GET /projects HTTP/1.1\r\n\r\n",
+                # as much of a line as a buffer of nginx has, and no more, so that it reads all
+                b"GET /".ljust(MOST_LINE, b"x"),
+                b"GET /projects HTTP/1.1\r\n%b" % host + b"X: ".ljust(MOST_LINE, b"x"),
+                b"PUT /projects HTTP/1.1\r\n%bTransfer-Encoding: gzip\r\n\r\n" % host,
+                b"PUT /projects HTTP/1.1\r\n%bContent-Length: -1\r\n\r\n" % host,
+            ]
+            for target in b"x/projects/x?key=a", b"/%zz", b"/%00", b"/../x":
+                texts.append(b"DELETE %b HTTP/1.1\r\n%b\r\n" % (target, host))
+            for text in texts:
+                head, _, body = self.told(front, text).partition(b"\r\n\r\n")
+                self.assertEqual(json.loads(body)["fault"], "front", text[:40])
+                self.assertIn(b"HTTP/1.1 400 ", head)
+                self.assertIn(b"\r\nContent-Type: application/json\r\n", head)
+            with open(f"{front.folder}/error.log", encoding="utf-8", errors="replace") as log:
+                self.assertEqual([line for line in log if "[error]" in line], [])
+
+        def told(self, front: Front, text: bytes) -> bytes:
+            """All that a front says to so many bytes, before it closes."""
+            reply = b""
+            with socket.create_connection(("127.0.0.1", front.port), SECONDS) as peer:
+                with front.context().wrap_socket(peer, server_hostname="127.0.0.1") as own:
+                    own.sendall(text)
+                    while part := own.recv(65536):
+                        reply += part
+            return reply
 
         def test_rate(self) -> None:
             """What's over the limit is refused, also of who may not do it, and isn't logged."""

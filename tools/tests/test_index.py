@@ -22,7 +22,12 @@ from unittest import mock
 from codenav.cli.index import INDEX
 from codenav.cli.publish import PUBLISH
 from codenav.client.projects import fresh_key, put
+from codenav.index.conversation import Conversation
+from codenav.index.given import Given, Limits
+from codenav.index.languages import HIGHLIGHTS, ServerKind
 from codenav.index.process import need_room
+from codenav.outcome import Notes
+from codenav.progress import Quiet
 from codenav.texts.places import uri_of
 from tests.servers import TOP, OnServer, command
 from tests.test_set_service import asked_at
@@ -549,6 +554,28 @@ class Ccls(OnFolder):
             }
         )
         self.assertNotIn(".ccls-cache", os.listdir(self.folder))
+
+    def test_when_it_is_ready(self) -> None:
+        """It has done all, and says so, or says the same twice: at times it doesn't say that it's
+        idle."""
+        kind = ServerKind("ccls", sign=HIGHLIGHTS)
+        given = Given(self.folder, None, [], (), Limits(), self.home, Notes(), print, Quiet())
+        rows = [
+            ((0, 1, 3, 1), False),
+            ((0, 2, 3, 1), False),
+            ((3, 3, 3, 2), True),
+            ((3, 3, 4, 2), False),
+            ((3, 4, 4, 2), False),
+            ((3, 4, 4, 3), False),
+            ((3, 4, 4, 3), True),
+            ((3, 4, 5, 3), False),
+        ]
+        with open(os.devnull, "wb") as log:
+            talk = Conversation(kind, given, {}, log)
+        for (idle, completed, enqueued, files), wanted in rows:
+            pipeline = {"lastIdle": idle, "completed": completed, "enqueued": enqueued}
+            talk.heard({"id": "ready", "result": {"pipeline": pipeline, "db": {"files": files}}})
+            self.assertEqual(talk.is_quiet, wanted, (idle, completed, enqueued, files))
 
 
 @unittest.skipUnless(shutil.which("clangd"), "clangd isn't installed")

@@ -7,10 +7,13 @@ import re
 import shutil
 import unittest
 from typing import Callable
+from unittest import mock
 
 from codenav.index.again import declared
-from codenav.index.answers import Name
+from codenav.index.answers import Name, Place
 from codenav.index.kept import Kept, Known, read
+from codenav.index.surfaces import go_surface, moved_names, moved_place
+from codenav.index.typescript import checker
 from tests.test_index import OnFolder
 
 Tree = dict[str, str]
@@ -90,6 +93,56 @@ class Declared(unittest.TestCase):
                     )
                     names = {("file:///a", 8, 2): after} if after else {}
                     self.assertEqual(declared(names, kept, ["file:///a"]), (words, differs))
+
+
+class Surfaces(unittest.TestCase):
+    def test_go(self) -> None:
+        """Texts that differ in bodies alone have one surface, and no others have."""
+        one = "package a\n\n// F is.\nfunc F(x int) (y interface{ M() }) { return 1 }\n\ntype T struct{ a int }\n"
+        rows = {
+            ("return 1", "return 2"): True,
+            ("return 1", "\n\treturn '{' + \"}\" + `}\n}` /* } */ // }\n"): True,
+            ("return 1", "switch x.(type) {}"): True,
+            ("return 1", "type t struct{ T }"): False,
+            ("return 1 }", ""): False,
+            ("return 1", "return '"): False,
+            ("return 1", "return `"): False,
+            ("{ return 1 }", ""): False,
+            ("F is", "F was"): False,
+            ("M()", "N()"): False,
+            ("(y", "(z"): False,
+            ("a int", "b int"): False,
+            ("func F(x int)", "var F = func(x int)"): False,
+            ("package a", "package a\n"): False,
+        }
+        for (old, new), wanted in rows.items():
+            with self.subTest(old=old, new=new):
+                self.assertIn(old, one)
+                is_same = go_surface(one) == go_surface(one.replace(old, new))
+                self.assertEqual(is_same, wanted)
+        for start in ("var s = `\nfunc x() {\n`\n", "var f = func() int { return %d }\n"):
+            texts = {go_surface(one + start.replace("%d", n) + f"type U{n} int\n") for n in "12"}
+            self.assertEqual(len(texts), 2)
+
+    def test_moved(self) -> None:
+        """A place is known to be where its name is now, or above all that may have moved."""
+
+        def name(text: str, lines: int) -> Name:
+            return Name((), text, 12, (lines, 1))
+
+        def place(line: int, end_line: int) -> Place:
+            return Place("u", line, 5, end_line, 6)
+
+        before = {("u", 2, 5): name("f", 0), ("u", 4, 5): name("g", 0)}
+        after = {("u", 2, 5): name("f", 2), ("u", 6, 5): name("g", 0)}
+        moved = moved_names(before, after)
+        assert moved is not None
+        rows = {(1, 1): 1, (2, 2): 2, (3, 3): None, (4, 4): 6, (4, 5): None, (9, 9): None}
+        for (line, end_line), wanted in rows.items():
+            found = moved_place(place(line, end_line), moved)
+            self.assertEqual(found, None if wanted is None else place(wanted, wanted))
+        self.assertIsNone(moved_names(before, {("u", 2, 5): name("f", 0)}))
+        self.assertIsNone(moved_names(before, {**after, ("u", 6, 5): name("h", 0)}))
 
 
 class StoodIn(Again):
@@ -206,28 +259,45 @@ class OfC(Again):
         self.edit(edit_c, range(2), 6)
 
 
+BODIES = (
+    "{ return 1 }",
+    "{\n\tx := 1\n\treturn x\n}",
+    "{\n\ttype own struct{ A }\n\treturn own{}.Side\n}",
+    "{\n\tvar x interface{} = `}\n}`\n\tswitch x.(type) {\n\t}\n\treturn '{' // {\n}",
+    "{ return none }",
+)
+"""Bodies of a function of Go: two of them with types of their own, and one that isn't right."""
+
+
 def edit_go(chance: random.Random, tree: Tree) -> None:
     """Has a program of Go differ a little: what it's made of in a package that others use over a
-    third."""
-    side = chance.choice(["Side", "Other"])
-    kind = chance.randrange(5)
+    third, and which files a package has."""
+    kind, made = chance.randrange(9), chance.choice(["A", "B"])
+    text = tree["a/a.go"]
     if kind == 0:
-        made = chance.choice(["A", "B"])
-        tree[
-            "b/b.go"
-        ] = f'package b\n\nimport "m/a"\n\nfunc Make() *a.{made} {{ return &a.{made}{{}} }}\n'
+        tree["b/b.go"] = OfGo.files["b/b.go"].replace("a.A", f"a.{made}")
     elif kind == 1:
-        tree[
-            "a/more.go"
-        ] = f"package a\n\ntype Runner interface {{\n\t{chance.choice(['Run', 'Stop'])}() int\n}}\n"
+        name = chance.choice(["Run", "Stop"])
+        tree["a/more.go"] = OfGo.files["a/more.go"].replace("Run", name)
     elif kind == 2:
-        tree["a/a.go"] = OfGo.files["a/a.go"].replace("Side", side)
+        tree["a/a.go"] = text.replace(*chance.choice([("Side", "Other"), ("Other", "Side")]))
     elif kind == 3:
-        tree[
-            "d/len.go"
-        ] = f"package d\n\nfunc {chance.choice(['len', 'two'])}(s string) int {{ return 2 }}\n"
-    else:
+        name = chance.choice(["len", "two"])
+        tree["d/len.go"] = f"package d\n\nfunc {name}(s string) int {{ return 2 }}\n"
+    elif kind == 4:
         tree.pop("d/len.go", None)
+    elif kind == 5:
+        package = chance.choice(["a", "other"])
+        tree["a/more.go"] = re.sub("^package .*", f"package {package}", tree["a/more.go"])
+    elif kind == 6:
+        name = chance.choice(["a/extra.go", "b/extra.go", "n/n.go", "n/n.go", "d/use.go"])
+        if tree.pop(name, None) is None:
+            uses = '\nimport (\n\t_ "m/n"\n\t"m/a"\n)\n\nvar Use a.Runner\n'
+            tree[name] = f"package {name[0]}\n{uses if name == 'd/use.go' else ''}"
+    else:
+        head, body = f"func (*{made}) Run() int ", chance.choice(BODIES)
+        before, _, after = text.partition(head)
+        tree["a/a.go"] = before + head + body + "\n\n" + after[after.index("\n\n") + 2 :]
 
 
 @unittest.skipUnless(shutil.which("gopls") and shutil.which("go"), "gopls isn't installed")
@@ -235,7 +305,8 @@ class OfGo(OfC):
     files = {
         "go.mod": "module m\n\ngo 1.19\n",
         "a/a.go": "package a\n\ntype Base struct{ Side int }\n\ntype A struct{ Base }\n\n"
-        "func (*A) Run() int { return 1 }\n\ntype B struct{ Base }\n\nfunc (*B) Run() int { return 2 }\n",
+        "func (*A) Run() int { return 1 }\n\ntype B struct{ Base }\n\nfunc (*B) Run() int { return 2 }\n\n"
+        "type C struct{ B }\n",
         "a/more.go": "package a\n\ntype Runner interface {\n\tRun() int\n}\n",
         "b/b.go": 'package b\n\nimport "m/a"\n\nfunc Make() *a.A { return &a.A{} }\n',
         "c/c.go": 'package c\n\nimport "m/b"\n\nvar Made = b.Make()\n',
@@ -244,6 +315,25 @@ class OfGo(OfC):
 
     def test_edits(self) -> None:
         self.edit(edit_go, range(2), 5)
+
+    def test_packages(self) -> None:
+        """An import leads to all files of its package, whichever came, and what implements an interface
+        of a file is asked again where that was another package's."""
+        tree = {**self.files, "u.go": 'package m\n\nimport "m/a"\n\nvar U a.A\n'}
+        steps: list[tuple[str, str, list[str]]] = [
+            ("a/extra.go", "package a\n", ["a.go:0", "extra.go:0", "more.go:0"]),
+            ("a/more.go", tree["a/more.go"].replace("package a", "package other"), []),
+            ("a/more.go", tree["a/more.go"], ["a.go:0", "extra.go:0", "more.go:0"]),
+        ]
+        self.put(tree)
+        self.again()
+        for name, text, wanted in steps:
+            tree[name] = text
+            self.put(tree)
+            with self.subTest(name=name, text=text):
+                self.again()
+                if wanted:
+                    self.assert_answers({("definition", "u.go", 2, 10): wanted})
 
     def test_over_files(self) -> None:
         """A file that leads to what changed over two others is asked again: it leads elsewhere then."""
@@ -255,6 +345,45 @@ class OfGo(OfC):
         self.put(tree)
         self.again()
         self.assert_answers({("definition", "d/d.go", 4, 15): ["a.go:10"]})
+
+
+@unittest.skipIf(checker.lacks(), "node or node-typescript isn't installed")
+class OfTypeScript(Again):
+    files = {
+        "tsconfig.json": '{"include": ["src/**/*.ts"]}',
+        "package.json": '{"name": "app", "version": "1.0.0", "main": "src/main.ts"}',
+        "src/main.ts": "import { run } from './made';\nimport { lib } from 'lib';\nrun(); lib.x;\n",
+        "src/made.ts": "export function run() { return 1; }\n",
+    }
+    changes = {
+        "src/made.ts": "\nexport function run() { return 1; }\n",
+        "src/more.ts": "export const more = 1;\n",
+        "node_modules/lib/index.d.ts": "export declare const lib: { x: number };\n",
+        "node_modules/lib/package.json": '{"name": "lib", "version": "2.0.0", "types": "other.d.ts"}',
+        "node_modules/lib/other.d.ts": "export declare const lib: { y: number; x: string };\n",
+        "package.json": '{"name": "app", "version": "2.0.0", "main": "src/more.ts"}',
+        "tsconfig.json": '{"include": ["src/made.ts"], "compilerOptions": {"strict": true}}',
+        "src/made.d.ts": "export function run(): string;\n",
+    }
+
+    def test_no_change(self) -> None:
+        """Nothing is asked, whatever else comes into the folder."""
+        self.again()
+        self.put({**self.files, "notes.txt": "none"})
+        with mock.patch.object(checker, "printed", side_effect=AssertionError):
+            self.assertEqual(self.call("--state", self.state)[0], 0)
+
+    def test_changes(self) -> None:
+        """What the compiler reads or looks for has it asked again where it comes, goes or differs."""
+        tree = dict(self.files)
+        self.again()
+        for name, text in self.changes.items():
+            with self.subTest(name=name):
+                tree[name] = text
+                self.put(tree)
+                self.again()
+        self.put(self.files)
+        self.again()
 
 
 if __name__ == "__main__":

@@ -5,7 +5,7 @@ import os
 from typing import Any, Optional
 from unittest import mock
 
-from codenav.faults import BadCall
+from codenav.faults import BadCall, NoFile
 from codenav.texts import revisions
 from codenav.texts.git import top_of
 from codenav.texts.places import Place, uri_of
@@ -33,6 +33,9 @@ class Revisions(InRepository):
         self.write(".gitattributes", "*.crlf text eol=crlf\n*.up filter=up\n")
         self.write("ends.crlf", "one\r\ntwo\r\n")
         self.write("case.up", "loud\n")
+        self.write("x\ny.up", "loud\n")
+        self.write("end\r", "one\n")
+        self.write("end", "two\n")
         self.git("config", "filter.up.clean", "tr a-z A-Z")
         self.git("config", "filter.up.smudge", "tr A-Z a-z")
         for other, body in ("latin", b"\xe9\n"), ("binary", b"\xe9\0"):
@@ -48,6 +51,9 @@ class Revisions(InRepository):
             ("open", "no line feed"),
             ("ends.crlf", "one\r\ntwo\r\n"),
             ("case.up", "loud\n"),
+            ("x\ny.up", "loud\n"),
+            ("end\r", "one\n"),
+            ("end", "two\n"),
             ("latin", "\xe9\n"),
         ):
             self.assertEqual(revision.text(name), text, name)
@@ -56,6 +62,7 @@ class Revisions(InRepository):
             ("a b", "a b: not in HEAD"),
             ("none", "none: not in HEAD"),
             ("x\ny", "x\ny: not in HEAD"),
+            ("a b\r", "a b\r: not in HEAD"),
         ):
             with self.assertRaisesRegex(BadCall, f"^{fault}$"):
                 revision.text(name)
@@ -124,8 +131,16 @@ class Revisions(InRepository):
         self.git("config", "uploadpack.allowFilter", "true")
         partial = os.path.join(self.home, "partial")
         self.git("clone", "-q", "--filter=blob:none", f"file://{self.top}", partial)
-        with self.assertRaisesRegex(BadCall, f"^a: not in {commit}$"):
-            self.revision(commit, partial).text("a")
+        self.write("x\ny", "x\n")
+        later = self.commit()
+        self.git("fetch", "-q", top=partial)
+        for name in "a", "x\ny":
+            own = commit if name == "a" else later
+            fault = f"^{name}: not fetched, in a partial clone, as it was in {own}$"
+            with self.assertRaisesRegex(BadCall, fault):
+                self.revision(own, partial).text(name)
+        with self.assertRaisesRegex(NoFile, f"^b: not in {commit}$"):
+            self.revision(commit, partial).text("b")
 
     def test_git_that_ends(self) -> None:
         """It's started again; where there's no repository any more, that it gives no answer is

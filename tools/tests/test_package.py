@@ -44,6 +44,29 @@ class OneCommand(unittest.TestCase):
                 (end.exception.code, said.getvalue().split()[: len(words)]), (0, words)
             )
 
+    def test_a_call_that_is_none(self) -> None:
+        """It's one line, and status 2."""
+        place = ["http://127.0.0.1:1", "app", "definition", "a.c"]
+        rows = [[name, "--no-such-option=\u00e9\n"] for name in TOOLS]
+        rows += [
+            ["ask", *place, *last] for last in (["1"], ["x", "1"], ["1", "\uff11"], ["1_0", "1"])
+        ]
+        rows += [
+            ["ask", "http://127.0.0.1:1", "app", "nothing"],
+            ["ask"],
+            ["browse", "--port", "-1"],
+        ]
+        for words in rows:
+            with self.subTest(words), redirect_stderr(io.StringIO()) as said:
+                try:
+                    status = main(words)
+                except SystemExit as end:
+                    status = int(end.code or 0)
+                self.assertEqual((status, said.getvalue().count("\n")), (2, 1), said.getvalue())
+                self.assertRegex(
+                    said.getvalue(), f"^codenav {words[0]}: .*; codenav .* --help says"
+                )
+
     def test_help_is_one_screen(self) -> None:
         lines = usage().splitlines()
         self.assertLessEqual((len(lines), max(map(len, lines))), (24, 80))

@@ -768,6 +768,7 @@ class Publish(OnCheckout):
             ("wait", signal.SIGINT, 130),
             (f"cat {RAW}", 0, 0),
             ("exit 3", 0, 2),
+            ("wait", signal.SIGKILL, -9),  # which leaves files
         )
         for last, number, wanted in rows:
             with self.subTest(last, number=number):
@@ -790,7 +791,7 @@ class Publish(OnCheckout):
                 while left := [pid for pid in found if is_running(int(pid))]:
                     self.assertLess(time.monotonic(), until, left)
                     time.sleep(0.05)
-                self.assertEqual(os.listdir(temporary), [])
+                self.assertEqual(bool(os.listdir(temporary)), number == signal.SIGKILL)
 
 
 class Parts(unittest.TestCase):

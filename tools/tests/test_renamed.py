@@ -5,8 +5,8 @@ called when they were indexed, or as they are today."""
 import os
 from random import Random
 
-from codenav.texts.places import Place, asked_path, maps_of
 from codenav.texts.revisions import Checkout
+from codenav.texts.places import Place, asked_path, maps_of
 from codenav.texts.today import Today
 from tests.repository import InRepository
 

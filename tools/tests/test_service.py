@@ -8,6 +8,7 @@ import signal
 import socket
 import sqlite3
 import subprocess
+import sys
 import tempfile
 import threading
 import time
@@ -28,7 +29,7 @@ from codenav.service.locks import UNSEEN
 from codenav.service.refusals import Refusal, refusal_by
 from codenav.service.standing import state_of
 from tests.fronts import Front, fronted, lacking
-from tests.servers import command, free_row, program
+from tests.servers import TOP, command, free_row, program
 from tests.test_fronts import HOVER
 from tests.test_uploads import DUMP
 
@@ -92,9 +93,9 @@ class OnService(unittest.TestCase):
         return done.returncode, said + warned
 
     def service(self, *words: str, is_slow: bool = False) -> "subprocess.Popen[str]":
-        """The service, which serves."""
-        process = self.supervised(*words, is_slow=is_slow)
-        self.until(lambda: process.poll() is not None or self.answers())
+        """The service, which serves, and has named its side."""
+        process, side = self.supervised(*words, is_slow=is_slow), f"{self.folder}/side"
+        self.until(lambda: process.poll() is not None or os.path.exists(side) and self.answers())
         self.assertIsNone(process.poll())
         return process
 
@@ -181,6 +182,24 @@ class Starts(OnService):
         os.unlink(f"{database}.digest")
         self.assertNotIn("changed since", self.ended(self.supervised())[1])
 
+    def test_small_files_of_any_bytes(self) -> None:
+        """A digest that's no text is another one, and what isn't known of a server isn't asked."""
+        for text in b"[" * 100_000, b"\xff", b"{}", b"[]", b"":
+            with open(f"{self.folder}/server", "wb") as out:
+                out.write(text)
+            self.assertEqual(self.called("turn", self.folder)[0], 2)
+            self.assertEqual(self.ended(self.service())[0], 0)
+        database = database_at(self.folder, "a")
+        for text in b"\xff\xfe", b"\0", b"":
+            with open(f"{database}.digest", "wb") as out:
+                out.write(text)
+            status, said = self.refused()
+            self.assertEqual((status, said.count("\n")), (78, 1), said)
+            self.assertIn(f"codenav supervise: {database}: changed since its server ended", said)
+            status, said = self.called("restore", f"{self.folder}/a", f"{self.base}/other")
+            text_of = f"codenav restore: {self.folder}/a: the copy changed since it was made\n"
+            self.assertEqual((status, said), (2, text_of))
+
     def prepared(self, text: str) -> str:
         """A database that has a dump whose hover says the text, all of it in the file itself."""
         body, database = DUMP % text, database_at(self.folder, "a")
@@ -246,6 +265,101 @@ class Starts(OnService):
         status, said = self.refused()
         self.assertEqual((status, is_said in said), (78, True), said)
 
+    def test_numbers_out_of_range(self) -> None:
+        """They're refused by one line before anything is touched."""
+        self.ended(self.service())
+        front, before = ("--front", "http://127.0.0.1:9"), self.kept()
+        for *words, said_of in (
+            ("--port", "0", "port is 1 to 65535"),
+            ("--port", "-1", "port is 1 to 65535"),
+            ("--port", "65536", "port is 1 to 65535"),
+            ("--port", "65534", *front, "port is 1 to 65533"),
+            ("--requests", "0", "requests is 1 to 1000000"),
+            ("--requests", "1000001", "requests is 1 to 1000000"),
+        ):
+            given = ["--program", self.program, *words, self.folder]
+            found = self.called("supervise", *given)
+            self.assertEqual(found, (2, f"codenav supervise: --{said_of}\n"))
+            self.assertEqual(self.kept(), before)
+
+    def kept(self) -> tuple[list[str], bytes]:
+        """The names in the side in use, and the digest there."""
+        path = f"{self.folder}/{side_of(self.folder)}"
+        with open(f"{path}/index.db.digest", "rb") as file:
+            return sorted(os.listdir(path)), file.read()
+
+    def test_servers_that_do_not_serve(self) -> None:
+        """A server that ends before it listens, over and over, is said once, and what's known of
+        the database stays known."""
+        process = self.service()
+        self.put("one", "k")
+        self.ended(process)
+        before, own, calls = self.kept(), self.program, f"{self.base}/calls"
+        self.program = f"{self.base}/ending"
+        for number, said_of in (0, ""), (3, ""), (2, "codenav: of a kind"), (1, "one\ntwo"):
+            with open(self.program, "w", encoding="utf-8") as script:
+                script.write(f"#!/bin/sh\necho '{said_of}' >&2\necho >>{calls}\nexit {number}\n")
+            os.chmod(self.program, 0o700)
+            with open(calls, "w", encoding="utf-8"):
+                pass
+            process = self.supervised()
+            self.until(lambda: os.path.getsize(calls) > 3)
+            status, said = self.ended(process)
+            self.assertEqual(status, 0)
+            text = said_of if number == 2 else f"the server ended with status {number}"
+            self.assertEqual(said.count(f"codenav supervise: {text}\n"), 1, said)
+            self.assertEqual([said.count(one) for one in ("one", "two")], [number == 1] * 2)
+            self.assertEqual(self.kept(), before)
+        self.program = own
+        database = database_at(self.folder, "a")
+        with open(f"{database}-wal", "ab") as file:
+            file.write(b"!")
+        self.refuses(f"{database}: changed since its server ended")
+
+    def test_a_program_that_may_not_be_started(self) -> None:
+        """It's tried again, and what's known of the database stays known."""
+        self.ended(self.service())
+        before, own = self.kept(), self.program
+        self.program = f"{self.base}/unknown"
+        with open(self.program, "wb") as script:
+            script.write(b"\0" * 100)
+        os.chmod(self.program, 0o700)
+        process = self.supervised()
+        self.says(process, f"{self.program}: Exec format error")
+        self.assertEqual(self.ended(process), (0, ""))
+        self.assertEqual(self.kept(), before)
+        process = self.supervised()
+        self.says(process, f"{self.program}: Exec format error")
+        os.unlink(self.program)
+        os.symlink(own, self.program)
+        self.until(self.answers)
+
+    def test_files_that_may_not_be_read(self) -> None:
+        """They end the service by one line, whichever of its files they are."""
+        self.ended(self.service())
+        user = ("setpriv", f"--reuid={NOBODY}", f"--regid={NOBODY}", "--clear-groups")
+        by = user if os.getuid() == 0 else ()
+        os.chmod(self.base, 0o755)
+        self.program = shutil.copy(self.program, f"{self.base}/program")
+        for at, _, names in os.walk(self.folder):
+            for path in [at, *(os.path.join(at, name) for name in names)]:
+                os.chown(path, *((NOBODY, NOBODY) if by else (-1, -1)))
+        owner = os.stat(self.folder).st_uid
+        before = self.kept()
+        files = "", "/a", "/a/index.db", "/a/index.db-wal", "/a/index.db.digest", "/lock", "/side"
+        for path in (f"{self.folder}{name}" for name in files):
+            mode = os.stat(path).st_mode
+            for less in 0o000, 0o200, 0o400:
+                if less == 0o400 and path.endswith(("/side", ".digest")):
+                    continue
+                os.chmod(path, less)
+                given = ["--program", self.program, "--port", str(self.port), self.folder]
+                status, said = self.called("supervise", *given, by=by)
+                os.chmod(path, mode)
+                text = f"codenav supervise: {path} may not be read and written: its owner is"
+                self.assertEqual((status, said), (78, f"{text} {owner}\n"))
+                self.assertEqual(self.kept(), before)
+
     def test_refusals_that_pass(self) -> None:
         """A port or a database that another program has is tried again, and is served when it's
         free."""
@@ -260,7 +374,7 @@ class Starts(OnService):
             assert holder.stdout is not None
             holder.stdout.readline()
             waiting = self.supervised()
-            self.says(waiting, is_said)
+            self.assertEqual(len(self.says(waiting, is_said)), 1)
             time.sleep(2.5)
             self.assertIsNone(waiting.poll())
             holder.terminate()
@@ -269,7 +383,7 @@ class Starts(OnService):
             self.assertEqual(self.hover(), b'{"contents":"one"}')
             status, said = self.ended(waiting)
             self.assertEqual(status, 0, said)
-            self.assertLessEqual(said.count(": codenav: "), 1, "it's said once")
+            self.assertNotIn(is_said, said, "it's said once")
 
     def test_a_second_service(self) -> None:
         """It waits until the first one has ended, and leaves what's known of that as it is."""
@@ -283,8 +397,8 @@ class Starts(OnService):
         self.until(lambda: getattr(serving_of(self.folder), "supervisor", 0) == second.pid)
         self.until(self.answers)
 
-    def says(self, process: "subprocess.Popen[str]", text: str) -> None:
-        """Waits until a line of a service has a text."""
+    def says(self, process: "subprocess.Popen[str]", text: str) -> list[str]:
+        """The lines of a service until one has a text."""
         assert process.stderr is not None
         late = threading.Timer(SECONDS, process.kill)
         late.start()
@@ -293,6 +407,167 @@ class Starts(OnService):
             lines.append(process.stderr.readline())
             self.assertNotEqual(lines[-1], "", lines)
         late.cancel()
+        return lines
+
+
+class Sides(OnService):
+    """A side that's named and gone, or lost, and one that a person wrote: nothing is served, copied
+    or changed then, and one line says so."""
+
+    def setUp(self) -> None:
+        super().setUp()
+        process = self.service()
+        self.put("one", "k")
+        self.ended(process)
+
+    def seen(self) -> dict[str, bytes]:
+        """The files of the folder but for its lock, with what they have."""
+        found = {}
+        for at, _, names in os.walk(self.folder):
+            for name in names:
+                with open(os.path.join(at, name), "rb") as file:
+                    found[os.path.relpath(os.path.join(at, name), self.folder)] = file.read()
+        return {path: text for path, text in found.items() if path != "lock"}
+
+    def refuses(self, text: str, *, restores: bool = False) -> None:
+        """Has `supervise` end with 78, `backup` and, but for where it helps, `restore` with 2, each
+        by one line with the text, and nothing be changed."""
+        before, own = self.seen(), ["--program", self.program]
+        calls = {"supervise": (78, [*own, "--port", str(self.port), self.folder])}
+        calls["backup"] = 2, [*own, self.folder, self.copies]
+        if not restores:
+            calls["restore"] = 2, [self.other(), self.folder]
+        for word, (wanted, words) in calls.items():
+            status, said = self.called(word, *words)
+            self.assertEqual((status, said.count("\n")), (wanted, 1), said)
+            self.assertIn(f"codenav {word}: {self.folder}/{text}", said)
+            self.assertEqual(self.seen(), before, word)
+
+    def other(self) -> str:
+        """A copy that was made elsewhere."""
+        path = f"{self.base}/elsewhere"
+        if not os.path.isdir(path):
+            os.mkdir(path)
+            with Program(self.program).serve(f"{path}/index.db"):
+                pass
+            digests.keep(f"{path}/index.db")
+        return path
+
+    def second(self) -> None:
+        """Has the second side be in use."""
+        os.rename(f"{self.folder}/a", f"{self.folder}/b")
+        self.named(b"b\n")
+
+    def named(self, text: bytes) -> None:
+        with open(f"{self.folder}/side", "wb") as out:
+            out.write(text)
+
+    def serves(self, text: str) -> None:
+        process = self.service()
+        self.assertEqual(self.hover(), f'{{"contents":"{text}"}}'.encode())
+        self.ended(process)
+
+    def test_a_side_that_is_gone(self) -> None:
+        """It's the same for the first one, which a service names itself, for one whose folder is
+        there alone, and where the other side has what a killed turn left."""
+        for side in "a", "b":
+            if side == "b":
+                self.second()
+            os.rename(f"{self.folder}/{side}", f"{self.base}/away")
+            for has_folder, has_other in (False, False), (True, False), (False, True):
+                with suppress(FileNotFoundError):
+                    os.rmdir(f"{self.folder}/{side}")
+                if has_folder:
+                    os.mkdir(f"{self.folder}/{side}")
+                if has_other:
+                    other = f"{self.folder}/{'ab'.replace(side, '')}"
+                    shutil.copytree(self.other(), other)
+                text = f"side: names {side}, and {self.folder}/{side}/index.db isn't there"
+                self.refuses(text, restores=True)
+                if has_other:
+                    shutil.rmtree(other)
+            os.rename(f"{self.base}/away", f"{self.folder}/{side}")
+            self.serves("one")
+
+    def test_a_restore_of_a_side_that_is_gone(self) -> None:
+        """A restore puts a copy in its place; without `side` an empty database is begun."""
+        shutil.copytree(f"{self.folder}/a", f"{self.base}/kept")
+        for number in range(2):
+            shutil.rmtree(f"{self.folder}/{side_of(self.folder)}")
+            status, said = self.called("restore", f"{self.base}/kept", self.folder)
+            self.assertEqual(status, 0, (number, said))
+            self.serves("one")
+        shutil.rmtree(f"{self.folder}/{side_of(self.folder)}")
+        os.unlink(f"{self.folder}/side")
+        process = self.service()
+        self.assertIn(b"D01", self.hover())
+        self.ended(process)
+
+    def test_a_lost_side(self) -> None:
+        """Where the second side has a database it isn't known which one is in use, whether the
+        first has one too or not; of the first alone it's known."""
+        self.second()
+        os.unlink(f"{self.folder}/side")
+        lost = f"side: isn't there, and {self.folder}/b/index.db is: write a or b there"
+        self.refuses(lost)
+        os.mkdir(f"{self.folder}/a")
+        self.refuses(lost)
+        shutil.copy(f"{self.other()}/index.db", f"{self.folder}/a/index.db")
+        self.refuses(lost)
+        self.named(b"b")
+        self.serves("one")
+        shutil.rmtree(f"{self.folder}/a")
+        os.rename(f"{self.folder}/b", f"{self.folder}/a")
+        os.unlink(f"{self.folder}/side")
+        self.serves("one")
+
+    def test_a_side_that_is_none(self) -> None:
+        for text, shown in (
+            (b"zz", "'zz'"),
+            (b"", "''"),
+            (b"c\n", "'c'"),
+            (b"a\nb\n", "'a\\nb'"),
+            (b"\xff", "'\ufffd'"),
+            (b"a\xff\n", "'a\ufffd'"),
+            (b"\0" * 50, f"'{chr(92)}x00"),
+        ):
+            self.named(text)
+            self.refuses(f"side: not a side: {shown}")
+        self.named(b" a\n\n")
+        self.serves("one")
+
+    def test_a_restore_to_a_new_folder_that_is_killed(self) -> None:
+        """The folder is still a new one, with which a service starts."""
+        copy, own = f"{self.base}/copy", self.folder
+        os.rename(f"{own}/a", copy)
+        for is_made in False, True:
+            self.folder = f"{self.base}/new-{is_made}"
+            if is_made:
+                os.mkdir(self.folder)
+            restoring = self.launched("restore", copy, self.folder, is_slow=True)
+            self.until(lambda: os.path.exists(f"{self.base}/copying"))
+            os.unlink(f"{self.base}/copying")
+            restoring.kill()
+            restoring.wait()
+            if is_made:
+                self.ended(self.service())
+            self.assertEqual(self.called("restore", copy, self.folder)[0], 0)
+            self.serves("one")
+
+    def test_a_side_that_is_changed_while_it_serves(self) -> None:
+        """A turn that isn't taken ends nothing."""
+        words = ["--port", str(self.port - 1), "--front", f"http://127.0.0.1:{free_port()}"]
+        process = self.launched("supervise", "--program", self.program, *words, self.folder)
+        self.until(self.answers)
+        for text in b"b\n", b"\xff", None:
+            if text is None:
+                os.unlink(f"{self.folder}/side")
+            else:
+                self.named(text)
+            status, said = self.called("turn", self.folder)
+            self.assertEqual((status, "no turn: " in said), (1, True), said)
+            self.assertEqual((self.answers(), side_of(self.folder)), (True, "a"))
+        self.assertEqual(self.ended(process)[0], 0)
 
 
 class Watched(OnService):
@@ -659,8 +934,11 @@ class Copies(OnService):
         shutil.rmtree(self.copies, ignore_errors=True)
         os.unlink(f"{self.folder}/lock")
         user = ("setpriv", f"--reuid={NOBODY}", f"--regid={NOBODY}", "--clear-groups")
-        # where the service's user may call it
+        # where the service's user may call them
         self.program = shutil.copy(self.program, f"{self.base}/program")
+        tools = shutil.copytree(os.path.join(TOP, "tools", "codenav"), f"{self.base}/tools/codenav")
+        own = [sys.executable, "-B", f"{tools}/__main__.py"]
+        self.enterContext(mock.patch("tests.test_service.command", lambda tool: [*own, tool]))
         for by in (), user, user:
             status, said = self.backup("--keep", "2", by=by)
             self.assertEqual((status, said.count("Permission denied")), (0, 0), said)

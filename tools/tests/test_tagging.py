@@ -4,7 +4,10 @@ import os
 import shutil
 import unittest
 
+from codenav.index.documents import documents_in
 from codenav.index.tags_file import files_of, tagged
+from codenav.outcome import Notes
+from codenav.texts.places import uri_of
 from tests.repository import InRepository
 
 SOURCE = "int two(void) { return 2; }\n"
@@ -52,3 +55,29 @@ class Tagging(InRepository):
         self.write("a.c", SOURCE)
         self.commit()
         self.assertEqual(self.lines(), [("two", "a.c")])
+
+    def test_submodules(self) -> None:
+        """Files of submodules, over any number of them, are the checkout's: tagged, and indexed also where
+        git doesn't have them yet. One that isn't checked out has none."""
+        inner, outer = (os.path.join(self.home, name) for name in ("inner", "outer"))
+        for top in inner, outer:
+            os.mkdir(top)
+            self.git("init", "-q", top=top)
+            self.write("in.c", SOURCE, top)
+            self.commit(top)
+        self.git("submodule", "--quiet", "add", inner, "deep", top=outer)
+        self.commit(outer)
+        self.write("a.c", SOURCE)
+        for name in ("sub", "none"):
+            self.git("submodule", "--quiet", "add", outer, name)
+        self.git("submodule", "--quiet", "update", "--init", "--recursive")
+        self.commit()
+        self.git("submodule", "--quiet", "deinit", "-f", "none")
+        names = ["a.c", "sub/deep/in.c", "sub/in.c"]
+        self.assertEqual(self.lines(), [("two", name) for name in names])
+        for name in ("new.c", "sub/new.c", "sub/deep/new.c"):
+            self.write(name, SOURCE)
+            names.append(name)
+        found = documents_in(self.top, Notes())["C and C++"]
+        wanted = {uri_of(os.path.join(self.top, name), []) for name in names}
+        self.assertEqual({one.uri for one in found}, wanted)

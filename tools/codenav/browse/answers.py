@@ -73,7 +73,8 @@ class Browser:
 
     def texts(self, wanted: Wanted, revision: str) -> Matches:
         """The lines of files that have a text."""
-        tops = [os.path.join(self.folder.top, name) for name in self.projects or [""]]
+        top = self.folder.top
+        tops = [os.path.join(top, name) for name in self.projects] or [top]
         return searched(self.folder, tops, wanted, revision)
 
     def asked(self, parameters: Parameters) -> dict[str, Any]:
@@ -114,9 +115,9 @@ class Browser:
         else to the word with its panel."""
         line, _, character = parameters.get("at", "").partition(".")
         position = position_in({"line": line, "character": character})
-        view = self.view(parameters)
+        view = self.view({**parameters, "path": name})
         at = Place(view.path(name), max(position[0], 1) - 1, max(position[1], 1) - 1)
-        with view.lock, suppress(NotThere):
+        with view.answering(), suppress(NotThere):
             try:
                 found = view.ask("definition", at)[0].found
             except NoDocument:
@@ -129,8 +130,9 @@ class Browser:
 
     def names(self, parameters: Parameters) -> dict[str, Any]:
         """The names that have a text, the nearest to it first, and of these those of the file that
-        is shown, with the places of their tags in the folder."""
+        is shown, with the places of their tags in the folder, in files whose paths have a text."""
         prefix, own = parameters.get("prefix", ""), parameters.get("path", "")
+        only = parameters.get("only", "").lower()
         if not prefix or "\0" in prefix or not is_utf8(prefix):
             raise Refused(400, "Names are searched by UTF-8, without U+0000.")
         names, notes = Names(), []
@@ -138,11 +140,9 @@ class Browser:
         is_more = False
         for view in self.all_views(parameters.get("revision", "")):
             with view.answering():
-                known = self.named(view, prefix, names)
-                found += [
-                    (tag, place, str(self.folder.inside(place.name)))
-                    for tag, place in islice(known, MOST_NAMES)
-                ]
+                named = self.named(view, prefix, names)
+                known = (one for one in named if only in one[2].lower())
+                found += islice(known, MOST_NAMES)
                 is_more = is_more or next(known, None) is not None
                 notes.append(view.noted())
         found.sort(key=lambda one: (*nearness(one[0]["name"], prefix), one[2] != own))
@@ -159,9 +159,10 @@ class Browser:
         many = f"the first {MOST_NAMES} names" if is_more else number(len(rows), "name")
         return {"names": rows, "said": said(many, *notes, names.said(), "")}
 
-    def named(self, view: View, prefix: str, names: Names) -> Iterator[tuple[Tag, Place]]:
-        """The tags whose names have a text, with their places in the folder."""
-        settings = view.settings
+    def named(self, view: View, prefix: str, names: Names) -> Iterator[tuple[Tag, Place, str]]:
+        """The tags whose names have a text, with their places in the folder, each once, and what
+        their files are called there."""
+        settings, known = view.settings, set()
         for project in settings.projects():
             tags = self.tags_of(view, project, prefix)
             if len(tags) < MOST_NAMES:
@@ -171,8 +172,11 @@ class Browser:
             own = [tag for tag in tags if (tag["project"], tag["file"]) in shown]
             asked = view.workspace.project(settings, project)
             for tag, place in names.places(asked, own, settings.tags_folder):
-                if self.folder.inside(place.name) is not None:
-                    yield tag, place
+                inside = self.folder.inside(place.name)
+                key = tag["name"], inside, place.line, place.character
+                if inside is not None and key not in known:
+                    known.add(key)
+                    yield tag, place, inside
 
     def tags_of(self, view: View, project: str, prefix: str) -> list[Tag]:
         """The tags of a project whose names begin with a text."""
@@ -226,8 +230,10 @@ class Browser:
             yield from names.places(asked, tags, settings.tags_folder)
 
     def files(self, parameters: Parameters) -> dict[str, Any]:
-        """The files whose names have the letters of a text."""
-        names = found_files(self.folder.files(), parameters.get("text", ""), self.folder.may_show)
+        """The files whose names have the letters of a text, and whose paths have another one."""
+        only = parameters.get("only", "").lower()
+        files = (name for name in self.folder.files() if only in name.lower())
+        names = found_files(files, parameters.get("text", ""), self.folder.may_show)
         revision = parameters.get("revision", "")
         rows = [
             {"name": name, "place": "", "href": href(name, revision=revision)} for name in names

@@ -30,6 +30,10 @@ class Refused(Exception):
         self.status, self.advice, self.word = status, advice, word
 
 
+class Gone(Refused):
+    """The same of a file that isn't there."""
+
+
 @dataclass(frozen=True)
 class Entry:
     """A file or a folder of a folder."""
@@ -47,7 +51,7 @@ class Folder:
         if not os.path.isdir(self.top):
             raise BadCall(f"{top}: not a folder")
         self.projects = frozenset(projects)
-        self.listed: tuple[float, list[str]] = (-SECONDS, [])
+        self.listed: tuple[float, list[str], list[str]] = (-SECONDS, [], [])
         self.left_out: dict[str, tuple[float, set[str]]] = {}
 
     def inside(self, path: str) -> Optional[str]:
@@ -91,7 +95,7 @@ class Folder:
         """The whole path of a file or a folder that is named from the folder on; raises Refused."""
         path = self.named(text)
         if not os.path.exists(path):
-            raise Refused(
+            raise Gone(
                 404, "no such file", "It may have another name now: the key f finds files there:"
             )
         return path
@@ -155,22 +159,33 @@ class Folder:
     def files(self) -> list[str]:
         """The names of all files, from the folder on; links to folders aren't followed. The list
         stands for some seconds."""
+        return self.all()[0]
+
+    def checkouts(self) -> list[str]:
+        """The names of the folders that are the tops of checkouts, of a submodule too."""
+        return self.all()[1]
+
+    def all(self) -> tuple[list[str], list[str]]:
+        """Both lists."""
         if time.monotonic() - self.listed[0] >= SECONDS:
-            names = []
-            for name in self.walk():
+            names: list[str] = []
+            tops: list[str] = []
+            for name in self.walk(tops):
                 names.append(name)
                 if len(names) == MOST_FILES:
                     break
-            self.listed = time.monotonic(), names
-        return self.listed[1]
+            self.listed = time.monotonic(), names, tops
+        return self.listed[1:]
 
-    def walk(self) -> Iterator[str]:
-        """The names of files, folder by folder: in a checkout those that git doesn't leave out."""
+    def walk(self, tops: list[str]) -> Iterator[str]:
+        """The names of files, folder by folder: in a checkout those that git doesn't leave out. The
+        tops of checkouts are added to a list."""
         left = [""]
         while left:
             at = left.pop()
             folder = os.path.join(self.top, at)
             is_tree = os.path.lexists(os.path.join(folder, ".git"))
+            tops += [at.removesuffix("/")] * is_tree
             names = in_checkout(folder) if is_tree or not at and not self.is_left_out else None
             for name in entries_of(folder) if names is None else names:
                 own = at + name.removesuffix("/")

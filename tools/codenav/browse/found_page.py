@@ -28,12 +28,9 @@ def search_page(browser: Browser, shown: Shown, parameters: Parameters) -> Itera
     if wanted.text:
         try:
             if not wanted.is_regex:
-                parts.append(
-                    rows("Names", browser.names({"prefix": wanted.text, "revision": revision}))
-                )
-                parts.append(
-                    rows("Files", browser.files({"text": wanted.text, "revision": revision}))
-                )
+                fields = {"only": wanted.path, "revision": revision}
+                parts.append(rows("Names", browser.names({"prefix": wanted.text, **fields})))
+                parts.append(rows("Files", browser.files({"text": wanted.text, **fields})))
         except (BadCall, Refused) as fault:  # texts are found without the index
             label = "" if isinstance(fault, Refused) else "Names: "
             parts.append(f'<p class="said">{label}{html(str(fault))}</p>')
@@ -91,4 +88,5 @@ def lines_of(found: Matches, wanted: Wanted, revision: str) -> str:
             f'<section><h4>{html(name)} <span class="count">{len(own)}</span></h4><ul>{links}</ul></section>'
         )
     said = found.said or f"{number(len(found.rows), 'line')} in {number(len(files), 'file')}"
+    said += f"; {number(len(found.unread), 'path')} can't be read" if found.unread else ""
     return f'<h3>Texts <span class="count">{said}</span></h3>{"".join(parts)}<p class="said">{NOT_SEARCHED}</p>'

@@ -2,43 +2,45 @@
 that a repository's settings name is run."""
 
 import os
+import secrets
 import time
+from contextlib import suppress
 from typing import NamedTuple, Optional
 
 from codenav.browse.changes import same_lines
 from codenav.browse.folder import Refused
+from codenav.browse.turns import Turns
 from codenav.browse.view import View
 from codenav.faults import BadCall
 from codenav.texts.decoded import decoded, lines_in
 from codenav.texts.git import checked_top, commit_of, git
 
 MOST_COMMITS = 50
+AT_ONCE = Turns(4)
 LAST = 253402300799
 """The last second of the year 9999."""
-FIELDS = "--format=%H%x00%at%x00%an%x00%s"
-LOG = ("log", "-z", "--follow", "--name-only", "--encoding=UTF-8", FIELDS)
+FIELDS = "--format={}%H%x00%at%x00%an%x00%s"
+LOG = ("log", "-z", "--follow", "--name-only", "--encoding=UTF-8")
 PLAIN = ("--no-ext-diff", "--no-textconv", "--no-show-signature", "--no-mailmap")
-BLAME = ("blame", "--porcelain", "--no-textconv")
+BLAME = ("blame", "--porcelain", "--no-textconv", "--encoding=UTF-8")
 
 
 class Commit(NamedTuple):
-    """A commit: its name, when it was made, by whom, its first line, and what the file was called
-    there, from the folder that is shown on."""
+    """A commit: its name, the day when it was made, by whom, its first line, and what the file was
+    called there, from the folder that is shown on."""
 
     name: str
-    time: int
+    day: str
     author: str
     subject: str
     file: str
 
-    def day(self) -> str:
-        """The day when it was made."""
-        return day_of(self.time)
 
-
-def day_of(seconds: int) -> str:
-    """The day of a time of git."""
-    return time.strftime("%Y-%m-%d", time.gmtime(min(max(seconds, 0), LAST)))
+def day_of(seconds: str) -> str:
+    """The day of a time as git prints it; a sign where it's none."""
+    if not seconds.isdecimal():
+        return "-"
+    return time.strftime("%Y-%m-%d", time.gmtime(min(int(seconds[:20]), LAST)))
 
 
 class Repository(NamedTuple):
@@ -71,43 +73,63 @@ def repository_of(view: View, path: str, revision: str = "") -> Repository:
     )
 
 
+def is_before_all(view: View, name: str) -> bool:
+    """Whether the revision that is shown is what was before the first commit of a file's
+    repository."""
+    revision = view.revision.removesuffix("^")
+    with suppress(Refused):
+        if revision and revision != view.revision:
+            where = repository_of(view, view.folder.named(name), revision)
+            said = git(where.top, "cat-file", "commit", where.commit) or b"\nparent "
+            return b"\nparent " not in said.partition(b"\n\n")[0]
+    return False
+
+
 def said_of(where: Repository, *words: str) -> bytes:
     """What git prints of a file; raises Refused where that's nothing, or takes too long."""
+    faults: list[str] = []
+    literal = {"GIT_LITERAL_PATHSPECS": "1"}
     try:
-        printed = git(where.top, *words, variables={"GIT_LITERAL_PATHSPECS": "1"})
+        with AT_ONCE.turn():
+            printed = git(where.top, *words, variables=literal, faults=faults)
     except BadCall as fault:
         raise Refused(503, str(fault), "Its history is long: a revision before has less.") from None
-    if printed is None:
+    if printed is not None:
+        return printed
+    if git(where.top, "ls-tree", where.commit, "--", where.name, variables=literal) == b"":
         raise Refused(404, f"{where.name}: not in {where.commit[:12]}")
-    return printed
+    raise Refused(500, f"{where.name}: {' '.join(faults) or 'git fails'}")
 
 
 def commits(view: View, path: str, skip: int) -> tuple[list[Commit], bool]:
     """Some commits that changed a file, also under the names that it had before, the last one first;
     and whether there are more. Raises Refused."""
+    if view.checkout is None and os.path.isdir(path):
+        raise Refused(403, "not a file")
     where = repository_of(view, path)
-    some = (f"--skip={skip}", f"--max-count={MOST_COMMITS + 1}")
+    kind = git(where.top, "cat-file", "-t", f"{where.commit}:{where.name}")
+    if view.checkout is not None and kind in (b"tree\n", b"commit\n"):
+        raise Refused(403, "not a file")
+    mark = secrets.token_hex(20)
+    some = (FIELDS.format(mark), f"--skip={skip}", f"--max-count={MOST_COMMITS + 1}")
     words = (*LOG, *PLAIN, *some, where.commit, "--", where.name)
     printed = said_of(where, *words)
     found: list[Commit] = []
-    fields = os.fsdecode(printed).split("\0")
-    at, name = 0, where.name
-    while at + 3 < len(fields):
-        own, when, author, subject = fields[at : at + 4]
-        at += 4
-        if fields[at : at + 1] and fields[at].startswith("\n"):
-            name, at = fields[at][1:], at + 1
-        found.append(Commit(own, int(when or 0), author, subject, where.shown(name)))
+    name = where.name
+    for part in os.fsdecode(printed).split(mark)[1:]:
+        own, when, author, subject, *names = part.split("\0")
+        if names and names[0].startswith("\n"):  # many of what was a folder
+            name = names[0][1:]
+        found.append(Commit(own, day_of(when), author, subject, where.shown(name)))
     return found[:MOST_COMMITS], len(found) > MOST_COMMITS
 
 
-def blamed(view: View, path: str) -> list[tuple[Optional[Commit], int, int]]:
-    """The lines of a file as runs that are of one commit each: the commit, or None of what isn't
-    committed, the first line from 0 and the one behind the last. Raises Refused."""
+def blamed(view: View, path: str, lines: list[str]) -> list[tuple[Optional[Commit], int, int]]:
+    """The lines of a file, which were read, as runs that are of one commit each: the commit, or None
+    of what isn't committed, the first line from 0 and the one behind the last. Raises Refused."""
     where = repository_of(view, path)
     printed = said_of(where, *BLAME, where.commit, "--", where.name)
     known, owners, body = porcelain(printed, where)
-    lines = view.lines(path)
     try:
         committed = lines_in(decoded(body))
     except ValueError as fault:
@@ -135,9 +157,9 @@ def porcelain(printed: bytes, where: Repository) -> tuple[dict[str, Commit], lis
         if line.startswith(b"\t"):
             if name not in known:
                 file = where.shown(unquoted(words.get("filename", "")))
-                when = int(words.get("author-time", "0"))
+                day = day_of(words.get("author-time", ""))
                 known[name] = Commit(
-                    name, when, words.get("author", ""), words.get("summary", ""), file
+                    name, day, words.get("author", ""), words.get("summary", ""), file
                 )
             owners.append(name)
             lines.append(line[1:])

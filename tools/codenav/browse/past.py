@@ -9,9 +9,9 @@ from urllib.parse import quote
 
 from codenav.browse.changes import Change, changes
 from codenav.browse.drawn import html
-from codenav.browse.folder import Refused, href
+from codenav.browse.folder import Gone, Refused, href
 from codenav.browse.frame import END, Shown, framed
-from codenav.browse.history import MOST_COMMITS, Commit, blamed, commits, repository_of
+from codenav.browse.history import MOST_COMMITS, Commit, blamed, commits, is_before_all
 from codenav.browse.listed import number
 from codenav.browse.pages import linked
 from codenav.browse.view import View
@@ -51,7 +51,7 @@ def history_page(shown: Shown, parameters: Parameters) -> Iterator[str]:
         change = compared(commit.file, before, f"{commit.name}^", commit.name)
         was = "" if commit.file == name else f' <span class="was">as {html(commit.file)}</span>'
         rows.append(
-            f"<tr><td>{linked_name(commit)}</td><td>{commit.day()}</td><td>{html(commit.author)}</td>"
+            f"<tr><td>{linked_name(commit)}</td><td>{commit.day}</td><td>{html(commit.author)}</td>"
             f'<td><a href="{escape(change)}">{html(commit.subject) or "(no message)"}</a>{was}</td></tr>'
         )
     heads = "".join(f'<th scope="col">{head}</th>' for head in ("Commit", "Day", "By", "Change"))
@@ -65,9 +65,10 @@ def history_page(shown: Shown, parameters: Parameters) -> Iterator[str]:
         own = f"{href(name, page='history')}?skip={start}"
         own += f"&revision={quote(os.fsencode(view.revision), safe='')}" if view.revision else ""
         pages.append(f'<a class="button" href="{escape(own)}">{label}</a>')
+    none = "" if rows else '<p class="said">no commit has this file</p>'
     content = (
         f'<div class="past"><h2>History</h2><table class="commits"><thead><tr>{heads}</tr></thead>'
-        f"<tbody>{''.join(rows)}</tbody></table><p>{' '.join(pages)}</p></div>"
+        f"<tbody>{''.join(rows)}</tbody></table>{none}<p>{' '.join(pages)}</p></div>"
     )
     yield framed(shown, f"History of {name}", content, "history") + END
 
@@ -78,8 +79,8 @@ def blame_page(shown: Shown) -> Iterator[str]:
     view, name = shown.view, shown.name
     path = view.path(name)
     with view.answering():
-        runs = blamed(view, path)
         lines = view.lines(path)
+    runs = blamed(view, path, lines)
     yield from in_frame(
         framed(shown, f"Blame of {name}", '<div class="past blame">$runs</div>', "blame"),
         "$runs",
@@ -102,7 +103,7 @@ def run_of(shown: Shown, commit: Optional[Commit], lines: list[str], first: int)
     else:
         change = compared(commit.file, commit.file, f"{commit.name}^", commit.name)
         who = (
-            f'<span class="who">{linked_name(commit)} <span class="day">{commit.day()}</span> '
+            f'<span class="who">{linked_name(commit)} <span class="day">{commit.day}</span> '
             f'<span class="author">{html(commit.author)}</span> '
             f'<a class="why" href="{escape(change)}">{html(commit.subject) or "(no message)"}</a></span>'
         )
@@ -134,8 +135,8 @@ def compare_page(shown: Shown, parameters: Parameters, view_of: ViewOf) -> Itera
     first = parameters.get("from", "") or "HEAD"
     last = parameters.get("to", "") or shown.view.revision
     old, new = view_of(first), view_of(last)
-    before = lines_or_none(old, old_name)
     after = lines_or_none(new, name)
+    before = lines_or_none(old, old_name)
     if before is None and after is None:
         raise Refused(404, f"neither {first} nor {last or 'today'} has this file")
     found = changes(before or [], after or [])
@@ -165,14 +166,13 @@ def lines_or_none(view: View, name: str) -> Optional[list[str]]:
     where git knows no such revision, unless it's what was before the first commit."""
     with view.answering():
         try:
-            path = view.path(name)
-            lines = view.lines(path)
-        except Refused as fault:
-            if fault.status != 404:
-                raise
-            own = view.revision.removesuffix("^")
-            repository_of(view, view.folder.named(name), own)
+            lines = view.lines(view.path(name))
+        except Gone:
             return None
+        except Refused:
+            if is_before_all(view, name):
+                return None
+            raise
     return lines[:-1] if not lines[-1] else lines
 
 

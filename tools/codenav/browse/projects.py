@@ -136,7 +136,7 @@ class Repositories:
 
     def refresh(self, project: str) -> str:
         """Has a project's files be those of its revision, which is looked up every few seconds; of
-        one that is gone they stay. Answers why there are none."""
+        one that is gone they stay. Answers why they aren't those."""
         if project not in self.listed:
             return ""
         is_due = time.monotonic() - self.looked[project] >= SECONDS
@@ -146,7 +146,7 @@ class Repositories:
                     self.follow(project)
             finally:
                 self.locks[project].release()
-        return "" if project in self.commits else self.faults[project]
+        return self.faults.get(project, "")
 
     def follow(self, project: str) -> None:
         """Checks out the commit of a project's revision, where that is another one. Raises
@@ -158,6 +158,7 @@ class Repositories:
             where = f"{self.listed[project].repository}: "
             self.faults[project] = str(fault).removeprefix(where)
             raise BadCall(where + self.faults[project]) from None
+        self.faults.pop(project, None)
 
     def check_out(self, project: str) -> None:
         """The same; the fault doesn't say where the repository is."""

@@ -1,25 +1,32 @@
-"""Texts of the files that are shown, found by `git grep`, which leaves out what `.gitignore` names;
-of a folder that is no checkout too. What is found is bounded, and so is the time."""
+"""Texts of the files that are shown, found by `git grep`: those that git has, and others that
+`.gitignore` doesn't name; of a folder that is no checkout too. What is found is bounded, and so is
+the time."""
 
 import os
 import re
 import subprocess
 import tempfile
 import threading
+import time
 from dataclasses import dataclass, field
 from typing import IO, Iterator, NamedTuple
 
 from codenav.browse.folder import Folder, Refused
+from codenav.browse.turns import Turns
 from codenav.faults import BadCall
 from codenav.texts.decoded import decoded
-from codenav.texts.git import CALL, ENVIRONMENT, checked_top, commit_of, top_of
+from codenav.texts.git import CALL, ENVIRONMENT, checked_top, commit_of, git, top_of
 from codenav.texts.places import units
 
 MOST_FOUND, MOST_CHARACTERS, MOST_LINE = 500, 300, 2_000_000
 SECONDS = 10.0
-AT_ONCE = threading.BoundedSemaphore(4)
+AT_ONCE = {False: Turns(4), True: Turns(2)}
+"""Of searches for texts, and of those for regular expressions, which may take all their time."""
 GREP = ("grep", "-n", "-I", "-z", "--column", "--no-color", "--full-name", "--threads=2")
+UNREAD = b"error: ", b"warning: could not open directory"
 PLAIN = ("--no-textconv", "--no-recurse-submodules")
+NAMED = ("ls-files", "-z", "--full-name", "--cached", "--ignored", "--exclude-standard")
+"""Files that git has although `.gitignore` names them, which `git grep --untracked` leaves out."""
 
 
 class Wanted(NamedTuple):
@@ -45,10 +52,12 @@ class Match(NamedTuple):
 
 @dataclass
 class Matches:
-    """What was found, and what is to be said of it where it isn't all."""
+    """What was found, what is to be said of it where it isn't all, and what git says of files and
+    folders that it couldn't read."""
 
     rows: list[Match] = field(default_factory=list)
     said: str = ""
+    unread: set[bytes] = field(default_factory=set)
 
 
 def searched(folder: Folder, tops: list[str], wanted: Wanted, revision: str) -> Matches:
@@ -57,40 +66,93 @@ def searched(folder: Folder, tops: list[str], wanted: Wanted, revision: str) -> 
     if not wanted.text or "\0" in wanted.text + wanted.path or "\n" in wanted.text:
         raise Refused(400, "Texts are searched by one line, without U+0000.")
     found = Matches()
-    with AT_ONCE:
+    with AT_ONCE[wanted.is_regex].turn():
+        until = time.monotonic() + SECONDS
+        faults: list[str] = []
+        is_known = not revision
         for top in tops:
-            search_in(folder, top, wanted, revision, found)
-            if found.said:
-                break
+            for call in calls_in(folder, top, revision, faults):
+                is_known = True
+                search_in(folder, call, wanted, found, until)
+                if found.said:
+                    return found
+    if not is_known:
+        raise Refused(404, faults[0])
     return found
 
 
-def words_of(wanted: Wanted, is_checkout: bool, commit: str) -> list[str]:
-    """The words of git's call."""
-    words = [*GREP, *PLAIN]
-    if not is_checkout:
-        words += ["--no-index", "--exclude-standard"]
-    elif not commit:
-        words += ["--untracked"]
+class Call(NamedTuple):
+    """A call of git: the folder, the top of its work tree, or nothing, the words that say in what
+    is searched, and the files that count, from that top on, where not all do."""
+
+    folder: str
+    tree: str
+    words: tuple[str, ...]
+    commit: str = ""
+    only: frozenset[str] = frozenset()
+
+
+def calls_in(folder: Folder, top: str, revision: str, faults: list[str]) -> Iterator[Call]:
+    """The calls that search a folder, also in the checkouts below it, which git leaves out of the
+    one around them. Why one hasn't the revision is added to the faults."""
+    paths = (os.path.join(folder.top, name) for name in folder.checkouts() if name)
+    inner = [path for path in paths if path.startswith(f"{top}/")]
+    is_all = folder.is_left_out and not os.path.lexists(os.path.join(top, ".git"))
+    is_plain = False
+    for own in [top, *inner]:
+        tree = top_of(own)
+        if revision:
+            try:
+                commit = commit_of(tree or checked_top(own), revision)
+            except BadCall as fault:
+                faults.append(str(fault))
+            else:
+                yield Call(own, tree, (), commit)
+            continue
+        if not tree:
+            is_plain = True
+            yield Call(own, own, ("--no-index", "--exclude-standard"))
+        elif own == top and is_all:
+            yield Call(own, tree, ("--untracked", "--no-exclude-standard"))
+        else:
+            if not is_plain:
+                yield Call(own, tree, ("--untracked",))
+            named = git(own, *NAMED) or b""
+            if named:
+                yield Call(own, tree, (), "", frozenset(os.fsdecode(named).split("\0")))
+
+
+def words_of(wanted: Wanted, call: Call, above: str) -> list[str]:
+    """The words of git's call in a folder, `above` which are the folders from the one that is shown
+    to it."""
+    words = [*GREP, *PLAIN, *call.words]
     words += ["-E" if wanted.is_regex else "-F", *([] if wanted.is_case else ["-i"])]
-    words += ["-e", wanted.text, *([commit] if commit else []), "--"]
-    parts = re.sub(r"([\\*?\[])", r"\\\1", wanted.path)
-    return words + ([f":(icase)*{parts}*"] if wanted.path else ["."])
+    words += ["-e", wanted.text, *([call.commit] if call.commit else []), "--"]
+    return words + (paths_with(wanted.path, above) if wanted.path else ["."])
 
 
-def search_in(folder: Folder, top: str, wanted: Wanted, revision: str, found: Matches) -> None:
-    """Adds what is found in a folder."""
-    tree = top_of(top)
-    try:
-        commit = commit_of(tree or checked_top(top), revision) if revision else ""
-    except BadCall:
-        return
-    call = [*CALL, "-C", top, *words_of(wanted, bool(tree), commit)]
+def paths_with(text: str, above: str) -> list[str]:
+    """What git calls the paths in a folder that have a text, which may begin in those above."""
+    if text.lower() in above.lower():
+        return ["."]
+    starts = [at for at in range(1, len(text)) if above.lower().endswith(text[:at].lower())]
+    patterns = [f"*{pattern(text)}*", *(f"{pattern(text[at:])}*" for at in starts)]
+    return [f":(icase){one}" for one in patterns]
+
+
+def pattern(text: str) -> str:
+    """A text as git writes it in a pattern."""
+    return re.sub(r"([\\*?\[])", r"\\\1", text)
+
+
+def search_in(folder: Folder, call: Call, wanted: Wanted, found: Matches, until: float) -> None:
+    """Adds what a call finds up to a time."""
     environment = {**os.environ, **ENVIRONMENT}
+    above = os.path.join(os.path.relpath(call.folder, folder.top), "").removeprefix("./")
     with tempfile.TemporaryFile() as errors:
         try:
             process = subprocess.Popen(
-                call,
+                [*CALL, "-C", call.folder, *words_of(wanted, call, above)],
                 stdin=subprocess.DEVNULL,
                 stdout=subprocess.PIPE,
                 stderr=errors,
@@ -99,11 +161,11 @@ def search_in(folder: Folder, top: str, wanted: Wanted, revision: str, found: Ma
         except OSError as fault:
             raise Refused(500, f"git can't be started: {fault.strerror}") from None
         late = threading.Event()
-        timer = threading.Timer(SECONDS, stop, [process, late])
+        timer = threading.Timer(max(until - time.monotonic(), 0.0), stop, [process, late])
         timer.start()
         assert process.stdout is not None
         try:
-            for match in read(process.stdout, folder, tree or top, f"{commit}:" if commit else ""):
+            for match in read(process.stdout, folder, call):
                 if len(found.rows) == MOST_FOUND:
                     found.said = f"the first {MOST_FOUND} lines"
                     break
@@ -115,9 +177,12 @@ def search_in(folder: Folder, top: str, wanted: Wanted, revision: str, found: Ma
             process.kill()
             process.communicate()
         errors.seek(0)
-        said = errors.read(1000).split(b"\n")[0]
-    if wanted.is_regex and not found.rows and said.startswith(b"fatal: "):
-        raise Refused(400, "not a regular expression: " + said[7:].decode(errors="replace"))
+        lines = errors.read(MOST_LINE).split(b"\n")
+    found.unread.update(line for line in lines if line.startswith(UNREAD))
+    fatal = next((line for line in lines if line.startswith(b"fatal: ")), b"")
+    if fatal and not found.rows:
+        label = "not a regular expression" if wanted.is_regex else "git can't search"
+        raise Refused(400, f"{label}: {fatal[7:].decode(errors='replace')}")
 
 
 def stop(process: subprocess.Popen[bytes], late: threading.Event) -> None:
@@ -126,8 +191,9 @@ def stop(process: subprocess.Popen[bytes], late: threading.Event) -> None:
     process.kill()
 
 
-def read(output: IO[bytes], folder: Folder, tree: str, prefix: str) -> Iterator[Match]:
+def read(output: IO[bytes], folder: Folder, call: Call) -> Iterator[Match]:
     """The lines that git prints, of files that are shown."""
+    prefix = f"{call.commit}:" if call.commit else ""
     while line := output.readline(MOST_LINE):
         rest = line
         while rest and line.count(b"\0") < 3:  # the name has line feeds
@@ -138,9 +204,10 @@ def read(output: IO[bytes], folder: Folder, tree: str, prefix: str) -> Iterator[
         fields = line.removesuffix(b"\n").split(b"\0", 3)
         if len(fields) < 4 or not fields[1].isdigit() or not fields[2].isdigit():
             continue
-        name = os.path.relpath(
-            os.path.join(tree, os.fsdecode(fields[0]).removeprefix(prefix)), folder.top
-        )
+        own = os.fsdecode(fields[0]).removeprefix(prefix)
+        if call.only and own not in call.only:
+            continue
+        name = os.path.relpath(os.path.join(call.tree, own), folder.top)
         if any(part.startswith(".") for part in name.split("/")):
             continue
         try:

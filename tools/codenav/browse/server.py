@@ -67,6 +67,8 @@ def page_of(start: Start, kind: str, name: str, parameters: Parameters) -> Itera
         )
     else:
         view = browser.view({**parameters, "path": name})
+    if f"/{kind}/" in PAGES[1:] and (not name or name in browser.projects):
+        raise Refused(403, "not a file")
     shown = Shown(view, name, browser.settings.project, browser.search)
     if kind == "history":
         return history_page(shown, parameters)

@@ -17,6 +17,7 @@ from codenav.faults import BadCall
 from codenav.texts.git import git
 
 SECONDS, MOST_LANGUAGES = 10.0, 3
+LAST = ("log", "-1", "--no-show-signature", "--encoding=UTF-8", "--format=%H %ct %D", "HEAD", "--")
 
 
 @dataclass
@@ -73,12 +74,11 @@ class Start:
         """Looks up the commit that is checked out."""
         folder = os.path.join(self.browser.folder.top, one.folder)
         try:
-            words = ("log", "-1", "--no-show-signature", "--format=%H %ct %D", "HEAD", "--")
-            said = os.fsdecode(git(folder, *words) or b"").strip().split(" ", 2)
+            said = os.fsdecode(git(folder, *LAST) or b"").strip().split(" ", 2)
         except BadCall:
             said = []
         if len(said) > 1:
-            one.commit, one.day = said[0], day_of(int(said[1]))
+            one.commit, one.day = said[0], day_of(said[1])
             names = [name.removeprefix("HEAD -> ") for name in said[2:] and said[2].split(", ")]
             one.label = next((name for name in names if name != "HEAD"), "")
 
@@ -97,9 +97,10 @@ class Start:
 
 def row(one: Project) -> str:
     """A project as a row."""
-    if one.fault:
-        return f'<tr><td>{html(one.name)}</td><td colspan="4">{html(one.fault)}</td></tr>'
     address = escape(href(one.folder))
+    if one.fault:
+        name = f'<a href="{address}">{html(one.name)}</a>' if one.files else html(one.name)
+        return f'<tr><td>{name}</td><td colspan="4">{html(one.fault)}</td></tr>'
     languages = ", ".join(map(html, one.languages)) or "-"
     return (
         f'<tr><td><a href="{address}">{html(one.name)}</a></td><td>{html(one.label)} <span class="commit">{one.commit[:10] or "-"}</span></td>'

@@ -9,8 +9,8 @@ from typing import Iterator, Optional
 
 from codenav.asking.project import Reply
 from codenav.asking.workspace import Workspace
-from codenav.browse.folder import MOST_BYTES, Folder, Refused
-from codenav.faults import BadCall, NoReply
+from codenav.browse.folder import MOST_BYTES, Folder, Gone, Refused
+from codenav.faults import BadCall, NoFile, NoReply
 from codenav.settings.found import Settings
 from codenav.texts.decoded import Text, Texts
 from codenav.texts.git import found_in, top_of
@@ -78,6 +78,8 @@ class View:
             return Text(self.folder.text(path))
         try:
             text = self.checkout.text(path)
+        except NoFile as fault:
+            raise Gone(404, str(fault), TODAY) from None
         except BadCall as fault:
             raise Refused(404, str(fault), TODAY) from None
         if len(text) > MOST_BYTES:
@@ -163,8 +165,10 @@ def permalink(view: View, at: Place) -> tuple[str, int, int]:
     checkout = Checkout(commit)
     try:
         text = checkout.text(path)
+    except NoFile as fault:
+        raise Gone(404, f"{fault}: commit it first") from None
     except BadCall as fault:
-        raise Refused(404, f"{fault}: commit it first") from None
+        raise Refused(404, str(fault)) from None
     finally:
         checkout.end()
     place = TextMap(text, view.text(path)).backward(line, character)

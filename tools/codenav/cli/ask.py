@@ -11,7 +11,7 @@ from codenav.asking.project import Project, Reply
 from codenav.asking.tags import Names, Tag
 from codenav.cli.asking import Asking, add_asking, add_by_name
 from codenav.cli.command import Command
-from codenav.cli.options import Help, add_server, first_place, named_all
+from codenav.cli.options import Help, add_server, first_place, named_all, number
 from codenav.cli.show import Shown
 from codenav.client.fetch import fetch_from
 from codenav.client.http import SECONDS
@@ -214,8 +214,8 @@ def add_place(parser: argparse.ArgumentParser, kind: str) -> None:
     if kind == "definition":
         add_by_name(parser)
     parser.add_argument("file", metavar="FILE")
-    parser.add_argument("line", metavar="LINE", type=int)
-    parser.add_argument("column", metavar="COLUMN", type=int)
+    parser.add_argument("line", metavar="LINE", type=number)
+    parser.add_argument("column", metavar="COLUMN", type=number)
 
 
 def add_names(parser: argparse.ArgumentParser, _: str) -> None:

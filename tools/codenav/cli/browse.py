@@ -13,7 +13,7 @@ from codenav.browse.projects import Repositories, checkouts_in, listed_in
 from codenav.browse.server import Pages
 from codenav.cli.asking import Asking, add_asking, add_by_name
 from codenav.cli.command import Command
-from codenav.cli.options import URL_HELP, add_words, url_in
+from codenav.cli.options import URL_HELP, add_words, number, url_in
 from codenav.cli.show import Shown
 from codenav.faults import BadCall
 from codenav.settings.found import FILE, nearest, settings_by
@@ -45,7 +45,7 @@ def add_browse(parser: argparse.ArgumentParser) -> None:
         metavar="NAME",
         help="a name that browsers ask by, besides 127.0.0.1 and localhost, as of a front or behind ssh -L: NAME:PORT, or NAME with any port",
     )
-    parser.add_argument("--port", type=int, help="8081 without it; 0 for a free one")
+    parser.add_argument("--port", type=number, help="8081 without it; 0 for a free one")
     add_by_name(parser)
     add_words(
         parser,

@@ -2,12 +2,22 @@
 
 import argparse
 import sys
-from typing import Any, Callable, Generic, NamedTuple, Optional, Sequence, TypeVar, cast
+from typing import Any, Callable, Generic, NamedTuple, NoReturn, Optional, Sequence, TypeVar, cast
 
 from codenav.cli.ends import status_of
 from codenav.cli.options import Help, with_server
+from codenav.printed import line
 
 Call = TypeVar("Call")
+
+
+class Parser(argparse.ArgumentParser):
+    """Says in one line what is wrong with a call."""
+
+    def error(self, message: str) -> NoReturn:
+        """Ends the process with status 2."""
+        word = " ".join(self.prog.split()[:2])
+        self.exit(2, f"{word}: {line(message)}; {word} --help says how it's called\n")
 
 
 class Command(NamedTuple, Generic[Call]):
@@ -28,7 +38,7 @@ class Command(NamedTuple, Generic[Call]):
 
     def parser(self) -> argparse.ArgumentParser:
         """What a call may be."""
-        parser = argparse.ArgumentParser(
+        parser = Parser(
             f"codenav {self.word}",
             usage=self.usage,
             description=self.text,

@@ -7,6 +7,7 @@ from dataclasses import dataclass, field
 from typing import Optional
 
 from codenav.cli.command import Command
+from codenav.cli.options import number
 from codenav.dumps.check.explain import ACCEPTED, explain, fault_of
 from codenav.dumps.check.why import why
 from codenav.dumps.packed import opened
@@ -99,8 +100,8 @@ def add_why(parser: argparse.ArgumentParser) -> None:
         "dump", metavar="DUMP", help="a dump, or the folder that one was split into"
     )
     parser.add_argument("file", metavar="FILE", help="a path, or a document's uri or its end")
-    parser.add_argument("line", metavar="LINE", type=int)
-    parser.add_argument("column", metavar="COLUMN", type=int)
+    parser.add_argument("line", metavar="LINE", type=number)
+    parser.add_argument("column", metavar="COLUMN", type=number)
 
 
 def run_why(call: WhyCall) -> int:

@@ -32,6 +32,13 @@ URL_HELP = (
 )
 
 
+def number(text: str) -> int:
+    """A number of digits alone."""
+    if not (text.isascii() and text.isdigit() and len(text) < 19):
+        raise argparse.ArgumentTypeError(f"not a number: {text!r}")
+    return int(text)
+
+
 def add_words(parser: argparse.ArgumentParser, form: str, text: str) -> None:
     """Adds the words of a command line that aren't options, of which the first ones may be left
     out."""

@@ -7,6 +7,7 @@ from tempfile import NamedTemporaryFile
 from typing import BinaryIO, Optional, cast
 
 from codenav.cli.command import Command
+from codenav.cli.options import number
 from codenav.cli.show import Shown
 from codenav.dumps.dump import Dump, opened_dump, profile_of
 from codenav.dumps.lsif.reading import Source
@@ -117,7 +118,7 @@ def add_prepare(parser: argparse.ArgumentParser) -> None:
         help="documents below URI are the files of FOLDER, whose digests the manifest keeps",
     )
     for option, text in NUMBERS.items():
-        group.add_argument(option, type=int, metavar="N", help=text)
+        group.add_argument(option, type=number, metavar="N", help=text)
     parser.add_argument(
         "input", metavar="IN", help="the indexer's dump or index, or - for the standard input"
     )

@@ -8,7 +8,7 @@ from codenav.cli.command import Command
 from codenav.cli.show import Shown
 from codenav.faults import BadCall
 from codenav.names import server_of
-from codenav.program import REQUESTS, Program
+from codenav.program import MOST_PORT, REQUESTS, Program
 from codenav.service.copies import backup, restore
 from codenav.service.folder import DATABASE
 from codenav.service.offered import offer
@@ -49,6 +49,10 @@ def add_supervise(parser: argparse.ArgumentParser) -> None:
 
 def supervise(call: SuperviseCall) -> int:
     """Runs a service."""
+    last = MOST_PORT - 2 if call.front else MOST_PORT
+    for name, number, most in ("port", call.port, last), ("requests", call.requests, REQUESTS):
+        if not 1 <= number <= most:
+            raise BadCall(f"--{name} is 1 to {most}")
     if not os.path.isdir(call.folder):
         raise BadCall(f"{call.folder}: no such folder")
     ports = (call.port + 1, call.port + 2) if call.front else (call.port, call.port)

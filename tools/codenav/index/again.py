@@ -8,6 +8,7 @@ from typing import Callable, Iterable, Mapping
 from codenav.index.answers import At, Name
 from codenav.index.given import Document
 from codenav.index.kept import Kept, Known
+from codenav.texts.places import path_of
 
 INCLUDE = re.compile(
     r'^[ \t]*#[ \t]*(?:include|include_next|import)[ \t]*[<"]([^>"\n]+)', re.MULTILINE
@@ -68,23 +69,45 @@ def by_includes(kept: Kept, documents: list[Document], moved: set[str]) -> set[s
     return including(documents, moved) | leading(kept, moved)
 
 
+def failing(kept: Kept, documents: list[Document], moved: set[str]) -> set[str]:
+    """The documents with errors that have the name of a file that moved, or of its folder."""
+    named = set[frozenset[str]]()
+    for uri in moved:
+        folder, name = os.path.split(path_of(uri, []) or "")
+        named |= {
+            frozenset(words_of(os.path.basename(folder))),
+            frozenset(words_of(os.path.splitext(name)[0])),
+        }
+    return {
+        one.uri
+        for one in documents
+        if kept.documents.get(one.uri, Known("")).errors
+        and any(words <= words_of(one.text) for words in named)
+    }
+
+
 def by_leads(kept: Kept, documents: list[Document], moved: set[str]) -> set[str]:
-    """What depends on documents where an answer goes on from file to file."""
-    return leading_far(kept, moved)
+    """What depends on documents where an answer goes on from file to file, and where a file is one of
+    those of its folder: what leads to such depends on one that is new."""
+    folders = {os.path.dirname(one.uri) for one in documents if one.uri not in kept.documents}
+    beside = {uri for uri in kept.documents if os.path.dirname(uri) in folders}
+    far = leading_far(kept, moved)
+    return far | leading(kept, beside) | failing(kept, documents, moved)
 
 
 Depends = Callable[[Kept, list[Document], set[str]], set[str]]
 
 
 def declared(names: Mapping[At, Name], kept: Kept, uris: Iterable[str]) -> tuple[set[str], bool]:
-    """Names that documents declare, but not in the same way before, without their numbers; and whether
-    what types have differs."""
+    """Names that documents declare, but not in the same way before, or with errors or nothing that led
+    anywhere, so that others may not have known them; and whether what types have differs."""
     words, differs = set[str](), False
     by_uri = defaultdict[str, Counter[Name]](Counter)
     for at, name in names.items():
         by_uri[at[0]][name] += 1
     for uri in uris:
-        before = Counter(kept.documents.get(uri, Known("")).names.values())
+        known = kept.documents.get(uri, Known(""))
+        before = Counter(known.names.values() if known.leads and not known.errors else ())
         words.update(word for one in by_uri[uri] - before for word in WORD.findall(one.name))
         own = [
             Counter(

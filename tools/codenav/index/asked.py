@@ -6,7 +6,7 @@ in the body of a macro, in a text. So nothing is asked there.
 """
 
 from collections import Counter
-from typing import Any, Callable, Iterable, Iterator
+from typing import Any, Callable, Container, Iterable, Iterator
 
 from codenav.addresses import spelled
 from codenav.faults import BadCall
@@ -96,11 +96,15 @@ def at(place: Place) -> dict[str, Any]:
 
 
 class Asking:
-    """Asks a server of documents that are open in it. What isn't answered for a fault is noted."""
+    """Asks a server of documents that are open in it. What isn't answered for a fault is noted; and so
+    are places by whose addresses the server may mean others."""
 
-    def __init__(self, talk: Team, lines: Lines, notes: Notes, shows: Shows) -> None:
+    def __init__(
+        self, talk: Team, lines: Lines, notes: Notes, shows: Shows, unsure: Container[str] = ()
+    ) -> None:
         """Raises BadCall where the server has no tokens."""
         self.talk, self.lines, self.notes, self.shows = talk, lines, notes, shows
+        self.unsure = unsure
         self.found, self.faulty = Answers(), set[Any]()
         legend = (talk.first.offers.get("semanticTokensProvider") or {}).get("legend") or {}
         self.types: list[str] = legend.get("tokenTypes") or []
@@ -173,9 +177,15 @@ class Asking:
         """What keeps the places of answers."""
 
         def take(word: Place, result: Any) -> None:
-            places = sorted(set(map(self.lines.unmarked, places_in(result))))
-            if places:
-                found[word] = places
+            name, own = self.lines.text(word), map(self.lines.unmarked, places_in(result))
+            places = sorted({self.lines.named(place, name) for place in own})
+            sure = [place for place in places if place.uri not in self.unsure]
+            if sure:
+                found[word] = sure
+            if len(sure) < len(places):
+                self.notes.leave_out(
+                    "a place by whose address the server may mean another", str(word)
+                )
 
         return take
 

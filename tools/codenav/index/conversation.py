@@ -43,6 +43,7 @@ class Conversation:
         self.errors: dict[str, list[str]] = {}
         self.offers: dict[str, Any] = {}
         self.read, self.active, self.is_quiet = set[str](), set[str](), False
+        self.info: Any = None
         self.shown: dict[str, list[Any]] = {}
         self.number = self.restarts = self.vain = 0
         self.dead, self.end = "", time.monotonic() + self.limits.seconds
@@ -77,7 +78,7 @@ class Conversation:
 
     def start(self) -> None:
         """Starts the process, and opens again what was open. Raises BadCall where it doesn't answer."""
-        self.read, self.active, self.is_quiet = set(), set(), False
+        self.read, self.active, self.is_quiet, self.info = set(), set(), False, None
         with self.lock:
             if self.is_over:
                 raise BadCall("it's over")
@@ -153,10 +154,13 @@ class Conversation:
             and method is None
             and isinstance(message.get("result"), dict)
         ):
-            counts = message["result"].get("pipeline") or {}
-            self.is_quiet = (
-                counts.get("enqueued") == counts.get("completed") == counts.get("lastIdle")
-            )
+            counts = {**(message["result"].get("pipeline") or {})}
+            is_idle = counts.pop("lastIdle", None) == counts.get("completed")
+            known = counts, message["result"].get(
+                "db"
+            )  # now and then it doesn't say that it's idle
+            is_done = counts.get("enqueued") == counts.get("completed")
+            self.is_quiet, self.info = is_done and (is_idle or known == self.info), known
         if "id" in message and method is not None:
             items = params.get("items", ()) if method == "workspace/configuration" else ()
             result = [self.settings for _ in items] if items else None

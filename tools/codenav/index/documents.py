@@ -3,6 +3,7 @@
 import codecs
 import os
 import re
+import sys
 from collections import defaultdict
 from typing import Iterable
 
@@ -13,9 +14,11 @@ from codenav.index.languages import language_of
 from codenav.index.tags_file import files_of
 from codenav.outcome import Notes
 from codenav.texts.decoded import body_of, decoded, lines_in
-from codenav.texts.places import path_of, uri_of
+from codenav.texts.places import path_of, uri_of, units
 
 NAME = re.compile(r"[^\W\d]\w*")
+EMBEDDED = re.compile(r"(?:\*\s*)?(?:[^\W\d]\w*\s*\.\s*)?")
+"""What may be before the name of an embedded type of Go."""
 INSTALLED = "node_modules"
 """A folder's name whose files are other packages', though they're in the folder."""
 
@@ -82,6 +85,17 @@ class Lines:
         own = place._replace(start=place.start - 1, end=place.end - 1)
         is_named = own.start >= 0 and NAME.fullmatch(self.text(own))
         return own if is_named and is_marked(path_of(place.uri, []) or "") else place
+
+    def named(self, place: Place, name: str) -> Place:
+        """The place of a name where it's said from the begin of its type on, as that of an embedded field
+        of Go."""
+        rest = self.text(place._replace(end=sys.maxsize)) if place.line == place.end_line else ""
+        found = EMBEDDED.match(rest)
+        end = found.end() if found else 0
+        if not end or (own := NAME.match(rest, end)) is None or own[0] != name:
+            return place
+        start = place.start + units(rest[:end])
+        return place._replace(start=start, end=start + units(name))
 
     def before(self, place: Place) -> str:
         """The text before a place on its line."""

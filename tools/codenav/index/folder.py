@@ -14,6 +14,7 @@ from codenav.dumps.prepare.prepare import prepare
 from codenav.faults import BadCall
 from codenav.files import whole_file
 from codenav.index.answers import Answers, Place
+from codenav.index.building import above
 from codenav.index.documents import Lines, documents_in
 from codenav.index.given import Document, Given, Limits
 from codenav.index.grouped import Grouped
@@ -162,7 +163,8 @@ class Indexing:
 
     def given(self, language: Language, work: str) -> Given:
         """What is given of a language's documents."""
-        manifests = [os.path.join(self.folder, name) for name in language.manifests]
+        folders = [self.folder, *(above(self.folder) if language.building.names else ())]
+        manifests = [os.path.join(at, name) for at in folders for name in language.manifests]
         if manifests and not any(map(os.path.exists, manifests)):
             self.mind(language.without)
         how = self.how

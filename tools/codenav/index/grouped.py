@@ -74,7 +74,10 @@ class Grouped:
                     self.declared[both[0]].append(both[1])
 
     def tags(self) -> dict[Place, Place]:
-        """For each symbol the word at which it's asked for: its own, or the first that leads to it."""
-        first = {symbol: self.uses[symbol][0] for symbol in self.symbols if self.uses[symbol]}
+        """For each symbol the word at which it's asked for: its own where that leads there, or the first
+        that does; or its own, which may lead to another, as that of an embedded field of Go does.
+        """
         own = {symbol: symbol for symbol in self.symbols if symbol.at in self.found.words}
-        return first | own
+        first = {symbol: self.uses[symbol][0] for symbol in self.symbols if self.uses[symbol]}
+        leading = {symbol: symbol for symbol in own if symbol in self.leads.get(symbol, [])}
+        return own | first | leading

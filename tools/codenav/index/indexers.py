@@ -15,8 +15,10 @@ from codenav.progress import Shows
 
 TAIL_LINES = 5
 POLL_SECONDS, ENDS_SECONDS = 0.1, 10
-GUARDED = 'trap "trap : TERM; kill 0; wait" TERM; sh -c "$1" & wait $!'
-"""A line of the shell that calls another one, and hands on SIGTERM to all that this started."""
+ENDING = f"trap : TERM; kill 0; (sleep {ENDS_SECONDS}; kill -KILL 0) & wait $own"
+GUARDED = f"trap '{ENDING}' TERM; sh -c \"$1\" & own=$!; wait $own"
+"""A line of the shell that calls another one, and hands on SIGTERM to all that this started; what
+goes on after it is killed."""
 
 
 class Indexer(NamedTuple):

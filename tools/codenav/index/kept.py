@@ -19,13 +19,15 @@ FORM = f"codenav index {VERSION}, 2"
 @dataclass(slots=True)
 class Known:
     """What was answered of a document: the digest of its text, its words and where they lead, the names
-    that it declares, and the errors that the server found in it."""
+    that it declares, the errors that the server found in it, and the digest of what others hold by.
+    """
 
     digest: str
     words: list[Place] = field(default_factory=list)
     leads: dict[Place, list[Place]] = field(default_factory=dict)
     names: dict[At, Name] = field(default_factory=dict)
     errors: list[str] = field(default_factory=list)
+    surface: str = ""
 
 
 @dataclass(slots=True)
@@ -134,7 +136,7 @@ class Written:
                     for word, places in one.leads.items()
                 ]
                 names = [[*at[1:], *name] for at, name in one.names.items()]
-                self.line(kind, uri, one.digest, words, leads, names, one.errors)
+                self.line(kind, uri, one.digest, words, leads, names, one.errors, one.surface)
         for symbol, asked in kept.symbols.items():
             places = [self.place(to) for to in asked.implementations]
             own, word = self.place(symbol), self.place(asked.word)
@@ -186,7 +188,7 @@ def lines_of(file: BinaryIO) -> Iterator[tuple[str, Kept]]:
             body = next(file, b"").removesuffix(b"\n")
             kept.said[uri] = Said(digest, [uris[number] for number in read_for], names, body)
         elif kind != "form":
-            uri, digest, words, leads, names, errors = parts
+            uri, digest, words, leads, names, errors, surface = parts
             documents = kept.documents if kind == "document" else kept.outside
             documents[uri] = Known(
                 digest,
@@ -197,6 +199,7 @@ def lines_of(file: BinaryIO) -> Iterator[tuple[str, Kept]]:
                     for at, start, around, name, number, size, detail in names
                 },
                 errors,
+                surface,
             )
     if language:
         yield language, kept

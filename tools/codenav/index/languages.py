@@ -10,6 +10,7 @@ from codenav.faults import BadCall
 from codenav.index import settings
 from codenav.index.again import Depends, by_includes, by_leads
 from codenav.index.answers import Answers
+from codenav.index.building import DATABASES, FLAGS, Building
 from codenav.index.given import Document, Given
 from codenav.index.kept import Kept
 from codenav.index.packages import (
@@ -21,19 +22,29 @@ from codenav.index.packages import (
     pip_package,
 )
 from codenav.index.python import line as python
+from codenav.index.surfaces import go_surface
 from codenav.index.typescript import checker
 
 DIAGNOSTICS, HIGHLIGHTS = "textDocument/publishDiagnostics", "$ccls/publishSemanticHighlight"
 STATUS = "experimental/serverStatus"
 """By what servers say that they have read a document, or all."""
 HEADERS = (".h", ".hh", ".hpp", ".hxx", "")
+GO_VARIABLES = (
+    "GOVERSION GOROOT GOOS GOARCH GOAMD64 GOARM GOFLAGS GOWORK GO111MODULE GOPATH GOMODCACHE GOPROXY "
+    "GOEXPERIMENT CGO_ENABLED CGO_CFLAGS CGO_CPPFLAGS CC"
+)
+RUST_FILES = (
+    *("Cargo.toml", "Cargo.lock", "rust-project.json", ".cargo/config.toml", ".cargo/config"),
+    *("rust-toolchain.toml", "rust-toolchain", "build.rs", "rust-analyzer.toml"),
+)
 
 
 class ServerKind(NamedTuple):
     """A language server: how it's called, Debian's package of it, and its settings for a folder and
     its documents. It's ready when it has sent its sign, of each
     open document or of itself, or where it has none when it has been silent for so many seconds
-    with no progress under way. It's asked of some keywords too, which are names."""
+    with no progress under way. It's asked of some keywords too, which are names. It may take a
+    backslash in a path for a slash."""
 
     line: str
     package: str = ""
@@ -41,6 +52,7 @@ class ServerKind(NamedTuple):
     sign: str = ""
     silence: float = 2
     keywords: frozenset[str] = frozenset()
+    is_slashed: bool = False
 
     def lacks(self) -> str:
         """What of it isn't installed; empty where all is."""
@@ -65,8 +77,9 @@ class Language(NamedTuple):
     """A language: the identifiers by which the protocol knows it, by the suffixes of its files; what
     answers of it, the first that's installed; what is at the top of a folder where it's built, and
     what is missed where none of that is there; the indexer that comes before these; its packages'
-    manager, and the package of a folder; what depends on a file that changed; and whether a type
-    implements another by what it has alone.
+    manager, and the package of a folder; what depends on a file that changed; whether a type
+    implements another by what it has alone; what says to its servers how files are built; and what
+    of a text other files hold by.
     """
 
     name: str
@@ -79,6 +92,8 @@ class Language(NamedTuple):
     package_of: Callable[[str], Optional[Package]]
     depends: Depends = by_leads
     is_structural: bool = False
+    building: Building = Building()
+    surface: Callable[[str], str] = str
 
 
 LANGUAGES = (
@@ -92,15 +107,21 @@ LANGUAGES = (
                 "clangd",
                 settings.clangd,
                 DIAGNOSTICS,
+                is_slashed=True,
             ),
-            ServerKind("ccls", "ccls", settings.ccls, HIGHLIGHTS),
+            ServerKind("ccls", "ccls", settings.ccls, HIGHLIGHTS, is_slashed=True),
         ),
-        ("compile_commands.json", "compile_flags.txt", "build/compile_commands.json"),
+        (*DATABASES, FLAGS),
         "no compile_commands.json (`bear -- make` writes it): the server guesses how files are compiled",
         "scip-clang",
         "pkg-config",
         c_package,
         by_includes,
+        building=Building(
+            (*DATABASES, FLAGS, ".clangd", ".clang-tidy", ".ccls"),
+            (("XDG_CONFIG_HOME", "~/.config", "clangd/config.yaml"),),
+            ("CPATH", "C_INCLUDE_PATH", "CPLUS_INCLUDE_PATH", "CLANGD_"),
+        ),
     ),
     Language(
         "Go",
@@ -112,6 +133,11 @@ LANGUAGES = (
         "gomod",
         go_package,
         is_structural=True,
+        building=Building(
+            ("go.mod", "go.sum", "go.work", "go.work.sum", "vendor/modules.txt"),
+            lines=(("go", "env", *GO_VARIABLES.split()),),
+        ),
+        surface=go_surface,
     ),
     Language(
         "Python",
@@ -147,6 +173,12 @@ LANGUAGES = (
         "rust-analyzer",
         "cargo",
         crate_in,
+        building=Building(
+            RUST_FILES,
+            tuple(("CARGO_HOME", "~/.cargo", name) for name in ("config.toml", "config")),
+            ("CARGO", "RUST"),
+            (("rustc", "-vV"), ("rustc", "--print", "sysroot")),
+        ),
     ),
     Language(
         "TypeScript and JavaScript",
@@ -193,7 +225,9 @@ def installed(language: Language, line: str = "") -> Way:
     except ValueError as fault:
         raise BadCall(f"--server {line!r}: {fault}") from None
     known = {way.line.split()[0]: way for way in language.ways if isinstance(way, ServerKind)}
-    given = known.get(line, ServerKind(line)) if line else None
+    program = os.path.basename(next(iter(shlex.split(line)), ""))
+    own = ServerKind(line, is_slashed=program in known and known[program].is_slashed)
+    given = known.get(line, own) if line else None
     ways = (given,) if given else language.ways
     for way in ways:
         if not way.lacks():

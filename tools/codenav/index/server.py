@@ -4,11 +4,12 @@ is kept."""
 import os
 import shlex
 import shutil
+from collections import defaultdict
 from typing import Iterable
 
 from codenav.faults import BadCall
-from codenav.index.again import declared, words_of
-from codenav.index.answers import Answers, Place
+from codenav.index.again import declared, includes, words_of
+from codenav.index.answers import Answers, At, Name, Place
 from codenav.index.asked import Asking
 from codenav.index.documents import Lines
 from codenav.index.given import Given
@@ -17,12 +18,30 @@ from codenav.index.indexers import tail_of
 from codenav.index.kept import Asked, Kept, Known, digest_of, key_of, outside_of, stamp_of
 from codenav.index.languages import Language, ServerKind, language_of
 from codenav.index.monikers import Packages
+from codenav.index.surfaces import moved_names, moved_place
 from codenav.index.team import Team
 from codenav.texts.places import path_of
 
 
+BACKSLASH = "%5C"
 MEMBERS = {7, 8, 22}
 """Kinds of symbols that are known where their type is: property, field, member of an enum."""
+
+
+def told_apart(given: Given) -> tuple[Given, set[str]]:
+    """What is given to a server that takes a backslash in a path for a slash, without files with such;
+    and the addresses of others by which it may mean one that's included."""
+    left = [one for one in given.documents if BACKSLASH in one.uri]
+    included = set[str]().union(*includes(given.documents if left else ()).values())
+    for one in left:
+        what = "a file whose path has a backslash, which the server takes for a slash"
+        given.notes.leave_out(what, path_of(one.uri, []) or "")
+    own = [one for one in given.documents if BACKSLASH not in one.uri]
+    return given._replace(documents=own), {
+        one.uri.replace(BACKSLASH, "/")
+        for one in left
+        if os.path.basename(path_of(one.uri, []) or "") in included
+    }
 
 
 class Server:
@@ -37,6 +56,7 @@ class Server:
         lines: Lines,
         kept: Kept,
     ) -> None:
+        given, self.unsure = told_apart(given) if kind.is_slashed else (given, set[str]())
         self.language, self.kind, self.given = language, kind, given
         self.packages, self.lines = packages, lines
         self.documents = {one.uri: one for one in given.documents}
@@ -44,7 +64,9 @@ class Server:
         self.settings = kind.settings_of(given.folder, given.documents)
         program = shutil.which(shlex.split(kind.line)[0]) or ""
         how = kind.line, self.settings, sorted(self.identifiers), sorted(given.on_server)
-        key = key_of(given.folder, program, language.manifests, *how)
+        built, paths = language.building, [path_of(uri, []) or "" for uri in self.documents]
+        files = built.files(given.folder, paths, kind.line)
+        key = key_of(given.folder, program, files, *how, built.around(given.folder))
         self.before = kept if kept.key == key else Kept(key)
         self.after = Kept(key)
         digests = {uri: digest_of(one.text) for uri, one in self.documents.items()}
@@ -57,7 +79,10 @@ class Server:
             if one.digest != stamp_of(path_of(uri, [])):
                 self.moved.add(uri)
         self.again, self.differs = set[str](), False
-        self.after.documents = {uri: Known(digest) for uri, digest in digests.items()}
+        for uri, digest in digests.items():
+            own = known[uri].surface if uri not in self.changed else ""
+            own = own or digest_of(language.surface(self.documents[uri].text))
+            self.after.documents[uri] = Known(digest, surface=own)
 
     def answers(self) -> Answers:
         """All that it answers. Raises BadCall, with what it said itself, where it can't be asked."""
@@ -101,7 +126,7 @@ class Server:
     def ask(self, talk: Team) -> Answers:
         """Asks what isn't kept."""
         self.open(talk, self.changed if self.before.documents else self.documents)
-        asking = Asking(talk, self.lines, self.given.notes, self.given.shows)
+        asking = Asking(talk, self.lines, self.given.notes, self.given.shows, self.unsure)
         found = asking.found
         if self.before.documents:
             self.widen(talk, asking)
@@ -123,10 +148,16 @@ class Server:
         """Finds which documents are asked again, and opens these and those that may define what is
         used there."""
         asking.outlines("names of what changed", sorted(self.changed))
-        names, self.differs = declared(asking.found.names, self.before, self.moved)
+        shifted = self.shifted(asking)
+        moved = self.moved - shifted.keys()
+        names, self.differs = declared(asking.found.names, self.before, moved)
         texts = {uri: words_of(one.text) for uri, one in self.documents.items()}
-        again = self.language.depends(self.before, self.given.documents, self.moved)
-        again |= self.changed | {uri for uri, words in texts.items() if words & names}
+        again = self.language.depends(self.before, self.given.documents, moved)
+        again |= (
+            self.shift(shifted)
+            | self.changed
+            | {uri for uri, words in texts.items() if words & names}
+        )
         self.again = again & self.documents.keys()
         used = {word for uri in self.again for word in texts[uri]}
         needed = {
@@ -136,6 +167,33 @@ class Server:
             if name.kind not in MEMBERS and not used.isdisjoint(words_of(name.name))
         }
         self.open(talk, self.again | (needed & self.documents.keys()))
+
+    def shifted(self, asking: Asking) -> dict[str, dict[At, At]]:
+        """Of documents that changed where others don't hold by it, where their names are now."""
+        own = defaultdict[str, dict[At, Name]](dict)
+        for at, name in asking.found.names.items():
+            own[at[0]][at] = name
+        found, known = dict[str, dict[At, At]](), self.before.documents
+        for uri in self.changed & known.keys():
+            if known[uri].surface == self.after.documents[uri].surface:
+                moved = moved_names(known[uri].names, own[uri])
+                if moved is not None:
+                    found[uri] = moved
+        return found
+
+    def shift(self, shifted: dict[str, dict[At, At]]) -> set[str]:
+        """Has what is known lead to where names are now; the documents for which that isn't known."""
+        lost = set[str]()
+        for uri, known in self.before.documents.items():
+            for word, places in known.leads.items():
+                if uri not in shifted and any(place.uri in shifted for place in places):
+                    now = [
+                        moved_place(one, shifted[one.uri]) if one.uri in shifted else one
+                        for one in places
+                    ]
+                    known.leads[word] = sorted(filter(None, now))
+                    lost |= {uri} if None in now else set()
+        return lost
 
     def ask_outside(self, asking: Asking) -> None:
         """Asks for the names in documents of other packages that are on the server."""

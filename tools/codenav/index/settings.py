@@ -4,12 +4,10 @@ import os
 from typing import Any, Iterable, Sequence
 
 from codenav.index.again import INCLUDE
+from codenav.index.building import DATABASES, FLAGS, above
 from codenav.index.given import Document
 from codenav.texts.decoded import is_utf_8
 from codenav.texts.places import path_of
-
-DATABASES, FLAGS = ("compile_commands.json", "build/compile_commands.json"), "compile_flags.txt"
-"""What says in a folder how the files below it are compiled."""
 
 
 def none(_: str, __: Sequence[Document]) -> dict[str, Any]:
@@ -67,12 +65,11 @@ def c_headers(folder: str, documents: Sequence[Document]) -> list[str]:
 
 def is_compiled(path: str) -> bool:
     """Whether something in a folder around a file says how it's compiled."""
-    folder, below = os.path.split(path)
-    while below:
-        if any(os.path.exists(os.path.join(folder, one)) for one in (*DATABASES, FLAGS)):
-            return True
-        folder, below = os.path.split(folder)
-    return False
+    return any(
+        os.path.exists(os.path.join(folder, one))
+        for folder in above(path)
+        for one in (*DATABASES, FLAGS)
+    )
 
 
 def clangd(folder: str, documents: Sequence[Document]) -> dict[str, Any]:

@@ -28,7 +28,8 @@ LEFT_OUT = {
 
 def files_of(folder: str, *kinds: str) -> Iterator[bytes]:
     """The files of a checkout, from its top on: those that git knows, or of the kinds that options of
-    `git ls-files` name, and without git all whose folders' names don't begin with a dot."""
+    `git ls-files` name, with those of its submodules, and without git all whose folders' names
+    don't begin with a dot."""
     listed = None
     if shutil.which("git"):
         listed = subprocess.run(
@@ -43,8 +44,12 @@ def files_of(folder: str, *kinds: str) -> Iterator[bytes]:
         names = walked(os.fsencode(folder))
     for name in names:
         path = os.path.join(os.fsencode(folder), name)
-        if os.path.isfile(path) and not os.path.islink(path):
+        if os.path.islink(path):
+            continue
+        if os.path.isfile(path):
             yield name
+        elif not name.endswith(b"/") and os.path.exists(os.path.join(path, b".git")):
+            yield from (os.path.join(name, one) for one in files_of(os.fsdecode(path), *kinds))
 
 
 def walked(folder: bytes) -> Iterator[bytes]:

@@ -54,9 +54,10 @@ class DumpWriter(Writer):
         several = [*grouped.declared.values(), *grouped.further.values()]
         more = [place for places in several for place in places]
         for place in [*grouped.leads, *grouped.symbols, *implemented, *more]:
-            if not self.monikers.packages.is_elsewhere(place.uri):
-                by_uri.setdefault(place.uri, set()).add(place)
+            by_uri.setdefault(place.uri, set()).add(place)
         for uri, places in by_uri.items():
+            if self.monikers.packages.is_elsewhere(uri):
+                continue
             found = language_of(uri)
             language = found[1] if found else "plaintext"
             self.documents[uri] = self.vertex("document", uri=uri, languageId=language)
@@ -64,19 +65,20 @@ class DumpWriter(Writer):
             if own:
                 self.edges("contains", self.documents[uri], own)
 
-    def apart(self, places: Iterable[Place]) -> list[Place]:
-        """The places of a document but for those that cross another."""
-        covering, kept = list[tuple[int, int]](), list[Place]()
+    def apart(self, places: set[Place]) -> list[Place]:
+        """The places of a document but for those that cross another, of which a word stays."""
+        covering, kept = list[Place](), dict[Place, None]()
+        words = {place for place in places if self.grouped.found.words.get(place.at) == place}
         for place in sorted(places, key=lambda one: (one.line, one.start, -one.end_line, -one.end)):
-            start, end = (place.line, place.start), (place.end_line, place.end)
-            while covering and covering[-1] <= start:
+            while covering and covering[-1][3:] <= place[1:3]:
                 covering.pop()
-            if covering and end > covering[-1]:
-                self.notes.leave_out("a place that crosses another", str(place))
-                continue
-            covering.append(end)
-            kept.append(place)
-        return kept
+            kept[place] = None
+            while covering and covering[-1][3:] < place[3:] and place in kept:
+                crossing = place if covering[-1] in words or place not in words else covering.pop()
+                self.notes.leave_out("a place that crosses another", str(crossing))
+                del kept[crossing]
+            covering += [place] if place in kept else []
+        return list(kept)
 
     def put_range(self, place: Place) -> int:
         """Writes a range."""

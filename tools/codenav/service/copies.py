@@ -21,11 +21,15 @@ from codenav.service.folder import (
     apart,
     database_at,
     give,
+    is_found,
+    is_named,
     is_of,
     locked,
+    named,
     other,
     serving_of,
     side_of,
+    side_with_database,
     use,
 )
 from codenav.service.locks import UNSEEN, holder_of
@@ -87,7 +91,7 @@ def copied_now(folder: str, new: str) -> float:
         give(new, os.path.dirname(new))
         try:
             with locked(folder):
-                database = database_at(folder, side_of(folder))
+                database = database_at(folder, side_with_database(folder))
                 if not os.path.isfile(database):
                     raise BadCall(f"{database}: no database")
                 return copied(database, new, server_over(folder, database))
@@ -139,22 +143,32 @@ def backup(program: Program, folder: str, target: str, keep: int) -> Copy:
 
 
 def put(copy: str, folder: str) -> None:
-    """Copies into the side that isn't in use, and then names that one, so that it's put back; the
-    database that was in use stays beside until the next call."""
+    """Puts a copy, when it's whole, in place of the side that isn't in use, the first of a new
+    folder, and names that one; the database that was in use stays beside until the next call."""
     old = side_of(folder)
-    target, before = os.path.join(folder, other(old)), os.path.join(folder, "before")
+    if named(folder) is None:
+        if is_found(database_at(folder, old)):
+            use(folder, old)
+        else:
+            old = other(old)
+    names = other(old), "before", UNFINISHED
+    target, before, work = (os.path.join(folder, name) for name in names)
     shutil.rmtree(before, ignore_errors=True)
     try:
-        emptied(target)
+        emptied(work)
+        give(work, folder)
         for path in digests.files_of(os.path.join(copy, DATABASE)):
-            copy_file(path, os.path.join(target, os.path.basename(path)))
-        for path in [target, *digests.files_of(os.path.join(target, DATABASE))]:
-            give(path, folder)
-            os.chmod(path, 0o700 if path == target else 0o600)
-        settled(target)
+            out = os.path.join(work, os.path.basename(path))
+            copy_file(path, out)
+            give(out, folder)
+            os.chmod(out, 0o600)
+        settled(work)
+        emptied(target)
+        os.rename(work, target)
         use(folder, other(old))
     except OSError:
-        if side_of(folder) == old:
+        shutil.rmtree(work, ignore_errors=True)
+        if not is_named(folder, other(old)):
             shutil.rmtree(target, ignore_errors=True)
             raise
     with suppress(OSError):

@@ -35,24 +35,25 @@ def keep(database: str) -> None:
     put_whole(database + ENDING, text_of(database), database)
 
 
-def forget(database: str) -> None:
-    """Removes the digest, since the database changes from now on."""
+def forget(database: str) -> bool:
+    """Removes the digest, since the database changes from now on; answers whether one was kept."""
     try:
         os.unlink(database + ENDING)
     except FileNotFoundError:
-        return
+        return False
     synced(os.path.dirname(database))
+    return True
 
 
 def difference(database: str) -> Optional[str]:
     """What isn't as it was when the digest was kept, if something isn't; nothing where none was
     kept."""
     try:
-        with open(database + ENDING, encoding="utf-8") as file:
+        with open(database + ENDING, "rb") as file:
             kept = file.read()
     except FileNotFoundError:
         return None
-    if text_of(database) == kept:
+    if text_of(database).encode() == kept:
         return None
     return (
         f"{database}: changed since its server ended: restore a backup, or remove {database}{ENDING} "

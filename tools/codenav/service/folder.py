@@ -1,10 +1,10 @@
 """The folder of a service: two sides for a database, of which one is in use, and what's known of
 the server that has it.
 
-FOLDER/side names the side in use, `a` or `b`; FOLDER/a/index.db is the database there, with its log
-index.db-wal. FOLDER/server says which process serves it, and FOLDER/copied by its time when the last
-good copy was made. Who copies the database, or puts another
-in its place, holds FOLDER/lock meanwhile, and so does who starts a server.
+FOLDER/side names the side in use, `a` or `b`, as soon as there's a database; until then it's `a`.
+FOLDER/a/index.db is the database there, with its log index.db-wal. FOLDER/server says which process
+serves it, and FOLDER/copied by its time when the last good copy was made. Who copies the database,
+or puts another in its place, holds FOLDER/lock meanwhile, and so does who starts a server.
 """
 
 import errno
@@ -12,7 +12,7 @@ import fcntl
 import json
 import os
 import time
-from contextlib import contextmanager
+from contextlib import contextmanager, suppress
 from dataclasses import asdict, dataclass
 from typing import Iterator, Optional, Union
 
@@ -23,6 +23,7 @@ SIDES = ("a", "b")
 DATABASE = "index.db"
 LOG = "-wal"
 COPIED = "copied"
+MENDED = "write a or b there, whichever has the database"
 # for how long a lock is waited for, which a turn or the copy of a large database may have
 LONGEST_WAIT = 900.0
 TICK = 0.02
@@ -46,16 +47,54 @@ def other(side: str) -> str:
     return SIDES[1 - SIDES.index(side)]
 
 
-def side_of(folder: str) -> str:
-    """The side in use, the first where none was ever named."""
+def written(folder: str) -> Optional[str]:
+    """What FOLDER/side has, where it's there."""
     try:
-        with open(os.path.join(folder, "side"), encoding="utf-8") as file:
-            side = file.read().strip()
+        with open(os.path.join(folder, "side"), encoding="utf-8", errors="replace") as file:
+            return file.read()
     except FileNotFoundError:
-        return SIDES[0]
-    if side not in SIDES:
-        raise BadCall(f"{folder}/side: not a side: {side[:20]!r}")
+        return None
+
+
+def named(folder: str) -> Optional[str]:
+    """The side that's named, or nothing where none ever was. Raises BadCall where it's no side."""
+    text = written(folder)
+    side = text and text.strip()
+    if side is not None and side not in SIDES:
+        raise BadCall(f"{folder}/side: not a side: {side[:20]!r}: {MENDED}")
     return side
+
+
+def is_named(folder: str, side: str) -> bool:
+    """Whether a side is the one that's named, whatever else stands there."""
+    return (written(folder) or "").strip() == side
+
+
+def side_of(folder: str) -> str:
+    """The side in use, the first where none was ever named. Raises BadCall where it's lost."""
+    side = named(folder)
+    if side is None and is_found(database := database_at(folder, SIDES[1])):
+        raise BadCall(f"{folder}/side: isn't there, and {database} is: {MENDED}")
+    return side or SIDES[0]
+
+
+def side_with_database(folder: str) -> str:
+    """The side in use. Raises BadCall where it was named, and its database is gone."""
+    side = side_of(folder)
+    database = database_at(folder, side)
+    if named(folder) and not is_found(database):
+        remedy = f"restore a backup, or remove {folder}/side to begin with an empty database"
+        raise BadCall(f"{folder}/side: names {side}, and {database} isn't there: {remedy}")
+    return side
+
+
+def is_found(path: str) -> bool:
+    """Whether there's something at a path. Raises OSError where that can't be seen."""
+    try:
+        os.stat(path)
+    except (FileNotFoundError, NotADirectoryError):
+        return False
+    return True
 
 
 def database_at(folder: str, side: str) -> str:
@@ -63,15 +102,18 @@ def database_at(folder: str, side: str) -> str:
 
 
 def use(folder: str, side: str) -> None:
-    """Names the side in use, for good also where the power is cut then. Where that fails the one of
-    before is named."""
-    before, path = side_of(folder), os.path.join(folder, "side")
+    """Names the side in use, for good also where the power is cut then. Where that fails what was
+    named before is."""
+    path, before = os.path.join(folder, "side"), written(folder)
     try:
         put_whole(path, f"{side}\n", folder)
         synced(folder)
     except OSError:
-        if side_of(folder) != before:
-            put_whole(path, f"{before}\n", folder)
+        if before is None:
+            with suppress(FileNotFoundError):
+                os.unlink(path)
+        elif written(folder) != before:
+            put_whole(path, before, folder)
         raise
 
 
@@ -110,7 +152,7 @@ def serving_of(folder: str) -> Optional[Serving]:
     try:
         with open(os.path.join(folder, "server"), encoding="utf-8") as file:
             found = Serving(**json.load(file))
-    except (FileNotFoundError, ValueError, TypeError):
+    except (FileNotFoundError, ValueError, TypeError, RecursionError):
         return None
     return found if is_of(found.supervisor, folder) else None
 

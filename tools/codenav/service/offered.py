@@ -7,7 +7,7 @@ import shutil
 
 from codenav.service import digests
 from codenav.service.copies import found
-from codenav.service.folder import DATABASE, LOG, apart, give, locked, locks
+from codenav.service.folder import DATABASE, LOG, apart, give, locked, locks, synced
 from codenav.service.standing import copy_file, has_database, settled
 from codenav.service.turn import service_of, turned
 
@@ -56,6 +56,7 @@ def moved(path: str, target: str) -> None:
     for name in DATABASE + LOG, DATABASE:
         if os.path.exists(os.path.join(path, name)):
             os.rename(os.path.join(path, name), os.path.join(target, name))
+    synced(target)
 
 
 def is_offered(folder: str) -> bool:

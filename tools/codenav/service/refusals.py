@@ -4,7 +4,9 @@ The program ends with status 2 and one line whatever the fault is, and `store re
 what the line doesn't say is asked of the system.
 """
 
+import errno
 import os
+from contextlib import suppress
 from dataclasses import dataclass
 from typing import Optional
 
@@ -41,8 +43,23 @@ def refusal_of(said: str, database: str) -> Refusal:
 
 def refusal_by(fault: OSError, folder: str) -> Refusal:
     """What stands behind a fault of the system before a server was started, which is tried again,
-    since it may pass."""
-    return Refusal(f"{fault.filename or folder}: {fault.strerror}", True)
+    since it may pass, but for what this user may not do."""
+    path = str(fault.filename or folder)
+    if fault.errno == errno.EACCES and path.startswith(folder):
+        if found := denied(folder, os.path.dirname(path), path):
+            return found
+    return Refusal(f"{path}: {fault.strerror}", True)
+
+
+def denied(*paths: str) -> Optional[Refusal]:
+    """The first of some paths, each in the one before, that this user may not read and write."""
+    for path in paths:
+        rights = os.R_OK | os.W_OK | (os.X_OK if os.path.isdir(path) else 0)
+        if not os.access(path, rights):
+            with suppress(OSError):
+                owner = os.stat(path).st_uid
+                return Refusal(f"{path} may not be read and written: its owner is {owner}", False)
+    return None
 
 
 def passing(database: str) -> Optional[Refusal]:
@@ -59,11 +76,8 @@ def passing(database: str) -> Optional[Refusal]:
 
 def lasting(database: str) -> Refusal:
     """What a person has to mend."""
-    folder = os.path.dirname(database)
-    for path in [folder, *files_of(database)]:
-        if not os.access(path, os.R_OK | os.W_OK):
-            owner = os.stat(path).st_uid
-            return Refusal(f"{path} may not be read and written: its owner is {owner}", False)
+    if found := denied(os.path.dirname(database), *files_of(database)):
+        return found
     if os.path.exists(database) and not os.path.isfile(database):
         return Refusal(f"{database} is no file", False)
     if os.path.exists(database) and os.stat(database).st_nlink > 1:

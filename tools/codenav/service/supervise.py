@@ -10,19 +10,31 @@ import signal
 import time
 from typing import Optional, Union
 
+from codenav.faults import BadCall
 from codenav.program import Running
 from codenav.progress import Shows
 from codenav.service import digests
-from codenav.service.folder import Serving, database_at, locked, note, other, serving_of, side_of
+from codenav.service.folder import (
+    Serving,
+    database_at,
+    locked,
+    note,
+    other,
+    serving_of,
+    side_with_database,
+    use,
+    written,
+)
 from codenav.service.front import NoFront, told
 from codenav.service.hung import Watch
+from codenav.service.locks import holder_of
 from codenav.service.measures import write
 from codenav.service.refusals import Refusal, refusal_by, refusal_of
 from codenav.service.systemd import DAY, longest, may_take, say
 from codenav.service.turning import How, NotTurned, Turn
 
 LASTING = 78
-PAUSE, LONG_PAUSE = 0.2, 1.0
+PAUSE, LONG_PAUSE, LOCK_WAIT = 0.2, 5.0, 1.0
 TICK = 0.05
 LOOK = 1.0
 SPENT = 0.9
@@ -37,9 +49,10 @@ class Supervisor:
 
     def __init__(self, folder: str, how: How, front: Optional[str], shows: Shows) -> None:
         self.folder, self.how, self.front, self.shows = os.path.abspath(folder), how, front, shows
-        self.stops = self.turns_now = False
+        self.stops = self.turns_now = self.was_kept = False
         self.side, self.turns, self.tries, self.last, self.refused = "", 0, 0, "", ""
         self.asked_before, self.looked, self.starts, self.measured = -1, 0.0, 0, 0.0
+        self.pause = PAUSE
 
     def stop(self, *_: object) -> None:
         """Is called by SIGTERM."""
@@ -59,7 +72,8 @@ class Supervisor:
             refusal = self.finished(self.watched(found)) if isinstance(found, Running) else found
             if refusal is not None and not self.may_wait(refusal):
                 return LASTING
-            self.rest(LONG_PAUSE if self.refused else PAUSE)
+            self.rest(self.pause)
+            self.pause = min(2 * self.pause, LONG_PAUSE)
         return 0
 
     def rest(self, seconds: float) -> None:
@@ -72,23 +86,29 @@ class Supervisor:
     def started(self) -> Union[Running, Refusal]:
         """A server over the database in use, where that's as it was left, or why there's none."""
         try:
-            with locked(self.folder, LONG_PAUSE):
+            with locked(self.folder, LOCK_WAIT):
                 known = serving_of(self.folder)
                 if known is not None and known.supervisor != os.getpid():
                     text = f"{self.folder} is served by process {known.supervisor}"
                     return Refusal(text, True)
-                self.side = side_of(self.folder)
+                self.side = side_with_database(self.folder)
                 database = database_at(self.folder, self.side)
                 os.makedirs(os.path.dirname(database), mode=0o700, exist_ok=True)
                 if changed := digests.difference(database):
                     return Refusal(changed, False)
-                digests.forget(database)
-                server = self.how.launched(self.folder, self.side)
+                self.was_kept = digests.forget(database)
+                try:
+                    server = self.how.launched(self.folder, self.side)
+                except OSError:
+                    self.keep(database)
+                    raise
                 self.starts += 1
                 self.noted(server)
                 return server
         except OSError as fault:
             return refusal_by(fault, self.folder)
+        except BadCall as fault:
+            return Refusal(str(fault), False)
 
     def noted(self, server: Running) -> None:
         """Says who serves, where the disk has room for it: `turn` asks for that alone."""
@@ -104,10 +124,12 @@ class Supervisor:
         begin, watch = time.monotonic(), None
         while server.is_there() and not self.stops:
             if watch is None and server.listens():
-                watch, self.refused = Watch(self.folder, longest() / 3), ""
+                watch = Watch(self.folder, longest() / 3)
+                self.refused, self.pause = "", PAUSE
                 said = f"serves {server.database} after {time.monotonic() - begin:.1f} s"
                 self.shows.warn(said)
                 say("READY=1", f"STATUS={said}")
+                self.keep_side()
             if watch is not None and self.is_due():
                 server = self.turned(server)
             if watch is not None and watch.hangs(server):
@@ -116,6 +138,14 @@ class Supervisor:
             self.measure()
             time.sleep(TICK)
         return server
+
+    def keep_side(self) -> None:
+        """Names the first side when its database is there, so that it's known where that's lost."""
+        try:
+            if written(self.folder) is None:
+                use(self.folder, self.side)
+        except OSError as fault:
+            self.shows.warn(f"{self.folder}/side isn't written: {fault.strerror}")
 
     def measure(self) -> None:
         """Says now and then that the service goes on, and how."""
@@ -172,24 +202,33 @@ class Supervisor:
 
     def finished(self, server: Running) -> Optional[Refusal]:
         """Ends a server that's still there, and keeps the digest of its database. Answers why it
-        was refused, where it was."""
+        was refused, where it was, or that it ended before it listened."""
         has_served = server.listens()
         server.end()
-        self.asked_before, said = -1, server.last_words()
-        refusal = None
-        if server.process.returncode == 2:
-            refusal = refusal_of(said.rpartition("\n")[2], server.database)
+        self.asked_before, lines = -1, server.last_words().splitlines()
+        status, refusal = server.process.returncode, None
+        ended = f"the server ended with status {status}"
+        if status == 2:
+            refusal = refusal_of(lines.pop() if lines else "", server.database)
+        elif not has_served:
+            refusal = Refusal(ended, True)
         if refusal is None or refusal.text != self.refused:
-            for line in said.splitlines():
+            for line in lines:
                 self.shows.warn(line)
-        if has_served:
-            try:
-                digests.keep(server.database)
-            except OSError as fault:
-                self.shows.warn(f"no digest of {server.database} is kept: {fault.strerror}")
+        self.was_kept |= has_served
+        self.keep(server.database)
         if refusal is None:
-            self.shows.warn(f"the server ended with status {server.process.returncode}")
+            self.shows.warn(ended)
         return refusal
+
+    def keep(self, database: str) -> None:
+        """Keeps the digest of a database when its server has ended: of one that didn't listen where
+        one was kept before, and nobody else may write."""
+        try:
+            if self.was_kept and holder_of(database) is None:
+                digests.keep(database)
+        except OSError as fault:
+            self.shows.warn(f"no digest of {database} is kept: {fault.strerror}")
 
     def may_wait(self, refusal: Refusal) -> bool:
         """Says once why no server can be started; answers whether another try may help, and not a

@@ -15,7 +15,7 @@ from typing import Callable, Optional
 
 from codenav.faults import BadCall
 from codenav.program import Program, Running
-from codenav.service.folder import database_at, other, side_of, use
+from codenav.service.folder import database_at, is_named, other, use
 from codenav.service.front import NoFront, State, told
 from codenav.service.offered import NEXT, is_offered, moved
 from codenav.service.refusals import refusal_by
@@ -127,7 +127,7 @@ class Turn:
         try:
             use(self.folder, other(self.side))
         except OSError:
-            if side_of(self.folder) == self.side:
+            if not is_named(self.folder, other(self.side)):
                 raise
         try:
             is_refused = told(self.front, f"/turn?side={other(self.side)}") is None
@@ -143,6 +143,7 @@ class Turn:
         begin, stood, before = time.monotonic(), 0.0, os.path.join(self.folder, "before")
         offers = is_offered(self.folder)
         try:
+            use(self.folder, self.side)
             if offers:
                 target = os.path.join(self.folder, other(self.side))
                 emptied(target)
@@ -176,7 +177,7 @@ class Turn:
 
     def dropped(self) -> None:
         """Lets writes go on, and removes the copy, where that isn't the side in use."""
-        if side_of(self.folder) == self.side:
+        if not is_named(self.folder, other(self.side)):
             shutil.rmtree(os.path.join(self.folder, other(self.side)), ignore_errors=True)
         try:
             told(self.front, "/release")

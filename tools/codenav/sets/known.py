@@ -149,7 +149,9 @@ class Sets:
         those whose places are dropped; and the sets whose manifests say so."""
         owners: dict[str, str] = {}
         used: set[str] = set()
-        for project in sorted(projects):
+        # while a set moves its home has its surface too, by keys that parts hide from each other
+        head = self.heads.get(asked) if is_set else None
+        for project in sorted(projects.difference(head.surface_projects() if head else ())):
             read: set[str] = set()
             own = self.owner(project, read) or (project if project == asked else None)
             if own in (None, asked, project) or not is_beside(str(own), asked):

@@ -27,9 +27,10 @@ def git(
     seconds: Optional[float] = SECONDS,
     body: bytes = b"",
     variables: Mapping[str, str] = ENVIRONMENT,
+    faults: Optional[list[str]] = None,
 ) -> Optional[bytes]:
-    """What a git command prints, which reads a body; None where it fails, or there is no git.
-    Raises BadCall where it doesn't end in time."""
+    """What a git command prints, which reads a body; None where it fails, or there is no git. Why
+    it fails is added to the faults. Raises BadCall where it doesn't end in time."""
     try:
         done = subprocess.run(
             [*CALL, "-C", folder, *words],
@@ -45,6 +46,8 @@ def git(
         raise BadCall(f"{folder}: git can't be started: {fault.strerror}") from None
     except subprocess.TimeoutExpired:
         raise BadCall(NO_ANSWER.format(folder)) from None
+    if done.returncode and faults is not None:
+        faults += done.stderr.decode(errors="replace").splitlines()[:1]
     return done.stdout if done.returncode == 0 else None
 
 

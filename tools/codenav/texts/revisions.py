@@ -1,18 +1,19 @@
 """The texts of a git revision, the names that files had there, and the names that they have today.
 
-A repository is asked by one `git cat-file --batch` for texts, and by one more for the names of
-their blobs.
+A repository is asked by one `git cat-file --batch` for texts, and by another for their blobs.
 """
 
 import os
+import re
 import secrets
 import subprocess
 import threading
 import time
 from contextlib import suppress
+from functools import cached_property
 from typing import Callable, Optional, TypeVar
 
-from codenav.faults import BadCall
+from codenav.faults import BadCall, NoFile
 from codenav.records import COMMIT
 from codenav.texts.decoded import decoded
 from codenav.texts.git import (
@@ -23,12 +24,14 @@ from codenav.texts.git import (
     checked_top,
     commit_of,
     found_in,
+    git,
     no_revision,
 )
 from codenav.texts.places import is_inside, work_tree
 from codenav.texts.renames import Renames
 
 Found = TypeVar("Found")
+ODD = re.compile(r"\n|\r\Z")  # of a name that can't be a line for `git cat-file --batch`
 FRESH = 5.0
 """Seconds for which it stands that git didn't find something."""
 AWAY = 60.0
@@ -177,7 +180,19 @@ class Revision:
 
     def found(self, name: str) -> list[bytes]:
         """What the revision has by a name: its object, of which kind it is, and more."""
+        if ODD.search(name):
+            return self.listed_as(name)[:0:-1]
         return self.names.asked(f"{self.commit}:{name}").split(b" ")
+
+    def listed_as(self, name: str) -> list[bytes]:
+        """What git lists of a name: its mode, its kind and its object; nothing where it has none."""
+        said = git(self.top, "ls-tree", "-z", "--full-tree", self.commit, "--", name) or b""
+        return said.partition(b"\t")[0].split()
+
+    @cached_property
+    def is_partial(self) -> bool:
+        """Whether it's a partial clone, which has no texts but those of what was checked out."""
+        return git(self.top, "config", "--get-regexp", r"^remote\..*\.promisor$") is not None
 
     def blob(self, name: str) -> str:
         """The blob of a file of the revision, or nothing."""
@@ -191,22 +206,33 @@ class Revision:
         self.read = {one: own for one, own in self.read.items() if now - own[0] < FRESH}
         asked = f"{blob} {name}"
         if asked not in self.read:
-            self.read[asked] = now, self.filtered(asked if blob else "", name)
+            self.read[asked] = now, self.filtered(blob, name)
         return self.read[asked][1]
 
-    def filtered(self, asked: str, name: str) -> str:
+    def filtered(self, blob: str, name: str) -> str:
         """What git prints of a blob of that name. Raises BadCall where there is none."""
-        found = self.blobs.asked(asked) if asked else b""
-        _, mark, body = found.partition(b"\n")
-        if not mark:
-            is_gone = self.names.asked(self.commit).endswith(b" missing\n")
-            raise BadCall(
-                no_revision(self.top, self.name) if is_gone else f"{name}: not in {self.name}"
-            )
+        body = self.body(blob, name) if blob else None
+        if body is None:
+            raise self.none(name)
         try:
-            return decoded(body[:-1])
+            return decoded(body)
         except ValueError as fault:
             raise BadCall(f"{name}: {fault} in {self.name}") from None
+
+    def body(self, blob: str, name: str) -> Optional[bytes]:
+        """The bytes of a blob of that name, as a checkout writes it."""
+        if ODD.search(name):
+            return git(self.top, "cat-file", "--filters", f"--path={name}", blob)
+        _, mark, body = self.blobs.asked(f"{blob} {name}").partition(b"\n")
+        return body[:-1] if mark else None
+
+    def none(self, name: str) -> BadCall:
+        """Why a file has no text."""
+        if self.names.asked(self.commit).endswith(b" missing\n"):
+            return BadCall(no_revision(self.top, self.name))
+        if self.is_partial and self.listed_as(name):
+            return BadCall(f"{name}: not fetched, in a partial clone, as it was in {self.name}")
+        return NoFile(f"{name}: not in {self.name}")
 
     def old_name(self, name: str) -> str:
         """The name at the revision of a file of today."""

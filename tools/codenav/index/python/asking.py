@@ -2,19 +2,21 @@
 
 import json
 import os
-from typing import Any
+from typing import Any, Iterable
 
 from codenav.faults import BadCall
 from codenav.index.answers import WHOLE, Answers, Place
 from codenav.index.asked import FORMLESS
 from codenav.index.given import Given
 from codenav.index.indexers import tail_of
-from codenav.index.kept import Kept, Said, digest_of_file, key_of
+from codenav.index.kept import Kept, Known, Said, digest_of_file, key_of
 from codenav.index.languages import ServerKind
+from codenav.index.looks import looks_of
 from codenav.index.packages import Package, said as printed
-from codenav.index.python.again import asked_again, looks_of
+from codenav.index.python.again import asked_again
 from codenav.index.python.answers import MODULE
 from codenav.index.python.line import LINE, MAIN, PYTHON
+from codenav.index.python.touched import ENDINGS
 from codenav.index.questions import Question
 from codenav.index.team import Team
 from codenav.texts.places import path_of, uri_of
@@ -48,14 +50,17 @@ class Asking:
         packages = [uri for uri in self.uris if uri.endswith("/__init__.py")]
         paths = printed(PYTHON, "-B", MAIN, "paths", cwd=given.folder)
         key = key_of(given.folder, PYTHON, (), paths, packages)
-        is_same = kept.key == key
-        is_same = is_same and looks_of(given.folder, kept.outside, self.digests) == kept.outside
+        is_same = kept.key == key and self.looks(kept.outside) == kept.outside
         self.before, self.after = kept if is_same else Kept(key), Kept(key)
         self.again = asked_again(given.folder, self.before.said, self.digests)
         for uri in self.uris:
             own = self.before.said.get(uri) if uri not in self.again else None
             self.after.said[uri] = own or Said(self.digests[uri])
         self.after.minds, self.around = self.before.minds, set(self.before.outside)
+
+    def looks(self, uris: Iterable[str]) -> dict[str, Known]:
+        """What is known of files and folders that answers were found by."""
+        return looks_of(self.given.folder, uris, self.digests, ENDINGS)
 
     def documents(self, talk: Team) -> None:
         """Asks of documents. What isn't answered is noted."""
@@ -101,7 +106,7 @@ class Asking:
                 own.body = b""
                 self.leave_out(uri, "an answer without its form")
         self.mind_copies()
-        self.after.outside = looks_of(self.given.folder, self.around, self.digests)
+        self.after.outside = self.looks(self.around)
 
     def leave_out(self, uri: str, what: str, more: str = "") -> None:
         """Notes that a document isn't answered."""

@@ -3,12 +3,29 @@
 // what is found of a file, or a symbol, a package's document, or what is to be said.
 'use strict';
 const fs = require('fs');
+const given = JSON.parse(fs.readFileSync(process.argv[3], 'utf8'));
+
+// The files and folders that anything reads or looks for, and those that are listed, by which the answers hold.
+const touched = new Set(), listed = new Set();
+function keeping(own) {
+  return (at, ...more) => {
+    if (typeof at === 'string') (own.name === 'readdirSync' ? listed : touched).add(at);
+    const found = own(at, ...more);
+    if (own.name.startsWith('realpath')) touched.add(found);
+    return found;
+  };
+}
+for (const name of ['accessSync', 'existsSync', 'lstatSync', 'openSync', 'readFileSync', 'readdirSync', 'realpathSync', 'statSync']) {
+  const own = fs[name];
+  fs[name] = keeping(own);
+  if (own.native) fs[name].native = keeping(own.native);
+}
+
 const ts = require(process.argv[2]);
 const { Names, Packages } = require('./names.js');
 const { Programs } = require('./programs.js');
 const { Symbols } = require('./symbols.js');
 
-const given = JSON.parse(fs.readFileSync(process.argv[3], 'utf8'));
 let lines = [];
 function flush() {
   if (lines.length) fs.writeSync(1, Buffer.from(lines.join('')));  // all of it: a pipe that's waited for
@@ -169,4 +186,5 @@ if (lacking.size) {
   const shown = [...lacking].sort().slice(0, 9).join(', ');
   mind(`${lacking.size} modules aren't installed, and nothing is known of them: ${shown}${lacking.size > 9 ? ', ..' : ''}`);
 }
+print({ touched: [...touched].sort(), listed: [...listed].sort() });
 flush();

@@ -9,18 +9,22 @@ import signal
 import threading
 from collections import defaultdict
 from contextlib import suppress
-from typing import Any, Iterator
+from typing import Any, Iterable, Iterator
 
 from codenav.faults import BadCall
 from codenav.index.answers import Answers, Place
 from codenav.index.given import Given
 from codenav.index.indexers import begun, tail_of
-from codenav.index.kept import Kept
+from codenav.index.kept import Kept, Said, digest_of_file, key_of, stamp_of
+from codenav.index.looks import THERE, looks_of
 from codenav.index.packages import Package
 from codenav.texts.places import path_of, uri_of
 
 PROGRAM = os.path.join(os.path.dirname(os.path.abspath(__file__)), "checker.js")
 STAGE = "asked the compiler's checker"
+ENDINGS = (".ts", ".tsx", ".mts", ".cts", ".js", ".jsx", ".mjs", ".cjs", ".json")
+WHOLE, SEPARATOR = "", b"\t"
+"""The name of all that was said, and what is between the lines of that: no JSON on one line has it."""
 
 
 def compiler() -> str:
@@ -38,7 +42,7 @@ def lacks() -> str:
     return "" if shutil.which("node") and compiler() else "the compiler of node-typescript"
 
 
-def printed(given: Given) -> Iterator[Any]:
+def printed(given: Given) -> Iterator[bytes]:
     """What the program prints, line by line. Raises BadCall where it doesn't come to its end."""
     own = given.own and {"name": given.own.name, "version": given.own.version}
     files = [path_of(one.uri, []) for one in given.documents]
@@ -59,9 +63,7 @@ def printed(given: Given) -> Iterator[Any]:
         try:
             assert run.stdout is not None
             with run.stdout:
-                for text in run.stdout:
-                    with suppress(ValueError):
-                        yield json.loads(text)
+                yield from run.stdout
             status = run.wait()
         finally:
             timer.cancel()
@@ -80,6 +82,7 @@ class Checked:
         self.words: list[tuple[Place, list[int]]] = []
         self.over: list[tuple[int, int]] = []
         self.uris: dict[str, str] = {}
+        self.texts, self.touched, self.listed = list[bytes](), list[str](), list[str]()
 
     def uri(self, path: str) -> str:
         """The address of a file."""
@@ -87,11 +90,19 @@ class Checked:
             self.uris[path] = uri_of(path, [])
         return self.uris[path]
 
-    def answers(self) -> Answers:
-        """All that it found. Raises BadCall."""
+    def answers(self, lines: Iterable[bytes]) -> Answers:
+        """All that it found, by what it printed. Raises BadCall."""
         given, count = self.given, 0
         given.shows.begin(STAGE, len(given.documents), "")
-        for one in printed(given):
+        for text in lines:
+            try:
+                one = json.loads(text)
+            except ValueError:
+                continue
+            if "touched" in one:
+                self.touched, self.listed = one["touched"], one["listed"]
+                continue
+            self.texts.append(text.rstrip())
             if "file" in one:
                 self.take_file(one)
                 count += 1
@@ -143,6 +154,23 @@ class Checked:
         found.implementations = {base: sorted(own) for base, own in over.items()}
 
 
-def answers(given: Given, _: Kept) -> tuple[Answers, Kept]:
-    """What the checker finds of a folder's documents, of which nothing is kept. Raises BadCall."""
-    return Checked(given).answers(), Kept()
+def answers(given: Given, kept: Kept) -> tuple[Answers, Kept]:
+    """What the checker finds of a folder's documents, which is kept where nothing that it reads or
+    looks for has changed. Raises BadCall."""
+    digests = {one.uri: digest_of_file(path_of(one.uri, []) or "") for one in given.documents}
+    library, node = compiler(), shutil.which("node") or ""
+    key = key_of(given.folder, node, (), library, stamp_of(library), given.own, digests)
+    own = kept.said.get(WHOLE)
+    there = {uri for uri, look in kept.outside.items() if look.digest == THERE}
+    looks = looks_of(given.folder, kept.outside, digests, ENDINGS, there)
+    if own is not None and kept.key == key and looks == kept.outside:
+        return Checked(given).answers(own.body.split(SEPARATOR)), kept
+    checked, after = Checked(given), Kept(key)
+    found = checked.answers(printed(given))
+    touched, listed = (
+        {uri_of(path, []) for path in paths} for paths in (checked.touched, checked.listed)
+    )
+    around, there = sorted(touched | listed), touched - listed
+    after.outside = looks_of(given.folder, around, digests, ENDINGS, there)
+    after.said[WHOLE] = Said("", body=SEPARATOR.join(checked.texts))
+    return found, after

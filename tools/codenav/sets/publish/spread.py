@@ -159,8 +159,8 @@ class Spread(Publish):
             store.remove(project)
         is_elsewhere = store is not self.store and self.front is not None
         if is_elsewhere and any(shard_of(one) == base.name for one in there):
-            remove_set(store, base.name)
-            remove_left(store, base.name)
+            if not remove_set(store, base.name):
+                remove_left(store, base.name)
         self.note_done(store)
 
     def note_done(self, store: Store) -> None:
