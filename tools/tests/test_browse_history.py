@@ -19,6 +19,7 @@ from codenav.browse.answers import Browser
 from codenav.browse.changes import aligned, changes
 from codenav.browse.folder import Folder
 from codenav.asking.outlines import ends_of
+from codenav.faults import BadCall
 from codenav.settings.found import Settings
 from codenav.texts import revisions
 from codenav.texts.git import git
@@ -415,6 +416,9 @@ class OfHistory(Served, InRepository):
         with mock.patch.object(searched, "CALL", ("sh", "-c", script)):
             text = Words(self.page("/search?text=one")).text()
         self.assertIn("0 lines in 0 files; 2 paths can't be read", text)
+        with mock.patch.object(searched, "git", mock.Mock(side_effect=BadCall("no answer"))):
+            page = self.page("/search?text=one")
+        self.assertIn('role="alert">no answer<', page)
         with mock.patch.object(searched, "CALL", ("sh", "-c", "echo fatal: some fault >&2")):
             text = Words(self.page("/search?text=one")).text()
         self.assertIn("git can't search: some fault", text)
