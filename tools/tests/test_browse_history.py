@@ -225,11 +225,10 @@ class OfHistory(Served, InRepository):
         none = "have it"
         with mock.patch.object(revisions, "FRESH", 1e9):
             self.page("/compare/b.rs?from=zz&to=HEAD", 404)
+            self.page("/files/b.rs?revision=zz", 404)
             self.git("branch", "zz")
-            body = self.got("/compare/b.rs?from=zz&to=HEAD")[1]
-            self.assertNotIn(none, body)
-        with mock.patch.object(revisions, "FRESH", 0.0):
             text = Words(self.page("/compare/b.rs?from=zz&to=HEAD")).text()
+            self.page("/files/b.rs?revision=zz")
         self.assertIn("0 lines added, 0 lines removed", text)
         self.write("n\nl.rs", "fn one() {}\n")
         self.write("end\r", "fn one() {}\n")
