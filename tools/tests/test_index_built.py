@@ -86,8 +86,9 @@ class Built(OnFolder):
     def test_go(self) -> None:
         files = ("go.sum", "sub/go.mod", "../go.work", "vendor/modules.txt")
         is_there = shutil.which("go")
-        variables = {"GOOS": "plan9", "GOFLAGS": "-tags=one", "CGO_ENABLED": "0"}
-        self.check(".go", {}, dict.fromkeys(files, "\n"), variables if is_there else {})
+        printed = {"GOOS": "plan9", "GOFLAGS": "-tags=one", "CGO_ENABLED": "0"} if is_there else {}
+        variables = {"GOPACKAGESDRIVER": "off", **printed}
+        self.check(".go", {}, dict.fromkeys(files, "\n"), variables)
 
     def test_rust(self) -> None:
         files = (

@@ -135,6 +135,7 @@ LANGUAGES = (
         is_structural=True,
         building=Building(
             ("go.mod", "go.sum", "go.work", "go.work.sum", "vendor/modules.txt"),
+            variables=("GOPACKAGESDRIVER", "PKG_CONFIG"),
             lines=(("go", "env", *GO_VARIABLES.split()),),
         ),
         surface=go_surface,
