@@ -19,6 +19,7 @@ from codenav.browse.answers import Browser
 from codenav.browse.changes import aligned, changes
 from codenav.browse.folder import Folder
 from codenav.asking.outlines import ends_of
+from codenav.faults import BadCall
 from codenav.settings.found import Settings
 from codenav.texts import revisions
 from codenav.texts.git import git
@@ -224,11 +225,10 @@ class OfHistory(Served, InRepository):
         none = "have it"
         with mock.patch.object(revisions, "FRESH", 1e9):
             self.page("/compare/b.rs?from=zz&to=HEAD", 404)
+            self.page("/files/b.rs?revision=zz", 404)
             self.git("branch", "zz")
-            body = self.got("/compare/b.rs?from=zz&to=HEAD")[1]
-            self.assertNotIn(none, body)
-        with mock.patch.object(revisions, "FRESH", 0.0):
             text = Words(self.page("/compare/b.rs?from=zz&to=HEAD")).text()
+            self.page("/files/b.rs?revision=zz")
         self.assertIn("0 lines added, 0 lines removed", text)
         self.write("n\nl.rs", "fn one() {}\n")
         self.write("end\r", "fn one() {}\n")
@@ -415,6 +415,9 @@ class OfHistory(Served, InRepository):
         with mock.patch.object(searched, "CALL", ("sh", "-c", script)):
             text = Words(self.page("/search?text=one")).text()
         self.assertIn("0 lines in 0 files; 2 paths can't be read", text)
+        with mock.patch.object(searched, "git", mock.Mock(side_effect=BadCall("no answer"))):
+            page = self.page("/search?text=one")
+        self.assertIn('role="alert">no answer<', page)
         with mock.patch.object(searched, "CALL", ("sh", "-c", "echo fatal: some fault >&2")):
             text = Words(self.page("/search?text=one")).text()
         self.assertIn("git can't search: some fault", text)

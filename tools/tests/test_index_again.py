@@ -11,6 +11,7 @@ from unittest import mock
 
 from codenav.index.again import declared
 from codenav.index.answers import Name, Place
+from codenav.index.asked import Asking
 from codenav.index.kept import Kept, Known, read
 from codenav.index.surfaces import go_surface, moved_names, moved_place
 from codenav.index.typescript import checker
@@ -88,9 +89,9 @@ class Declared(unittest.TestCase):
                 (None, set[str](), not is_plain),
             ):
                 with self.subTest(kind, after=after):
-                    kept = Kept(
-                        documents={"file:///a": Known("", names={("file:///a", 1, 2): one})}
-                    )
+                    at = Place("file:///a", 1, 2, 1, 9)
+                    known = Known("", leads={at: [at]}, names={("file:///a", 1, 2): one})
+                    kept = Kept(documents={"file:///a": known})
                     names = {("file:///a", 8, 2): after} if after else {}
                     self.assertEqual(declared(names, kept, ["file:///a"]), (words, differs))
 
@@ -141,6 +142,8 @@ class Surfaces(unittest.TestCase):
         for (line, end_line), wanted in rows.items():
             found = moved_place(place(line, end_line), moved)
             self.assertEqual(found, None if wanted is None else place(wanted, wanted))
+        whole = Place("u", 0, 0, 7, 1)
+        self.assertEqual(moved_place(whole, moved), whole)
         self.assertIsNone(moved_names(before, {("u", 2, 5): name("f", 0)}))
         self.assertIsNone(moved_names(before, {**after, ("u", 6, 5): name("h", 0)}))
 
@@ -316,6 +319,7 @@ class OfGo(OfC):
         "b/b.go": 'package b\n\nimport "m/a"\n\nfunc Make() *a.A { return &a.A{} }\n',
         "c/c.go": 'package c\n\nimport "m/b"\n\nvar Made = b.Make()\n',
         "d/d.go": 'package d\n\nimport "m/c"\n\nvar D = c.Made.Run() + c.Made.Side + len("2")\n',
+        "e/e.go": 'package e\n\nimport "m/a"\n\nvar E = (&a.B{}).Run() + a.C{}.Side\n',
     }
 
     def test_edits(self) -> None:
@@ -339,6 +343,25 @@ class OfGo(OfC):
                 self.again()
                 if wanted:
                     self.assert_answers({("definition", "u.go", 2, 10): wanted})
+
+    def test_bodies(self) -> None:
+        """A body that changed has no other file asked again, which leads to where names are now."""
+        self.again()
+        body = "{\n\tx := 1\n\treturn x\n}"
+        self.put({**self.files, "a/a.go": self.files["a/a.go"].replace("{ return 1 }", body)})
+        with mock.patch.object(
+            Asking, "documents", autospec=True, side_effect=Asking.documents
+        ) as documents:
+            self.again()
+        names = [[os.path.basename(uri) for uri in call.args[1]] for call in documents.mock_calls]
+        self.assertEqual(names[0], ["a.go"])
+        self.assert_answers(
+            {
+                ("definition", "e/e.go", 4, 12): ["a.go:11"],
+                ("definition", "e/e.go", 4, 17): ["a.go:13"],
+                ("definition", "e/e.go", 4, 27): ["a.go:15"],
+            }
+        )
 
     def test_over_files(self) -> None:
         """A file that leads to what changed over two others is asked again: it leads elsewhere then."""

@@ -107,7 +107,7 @@ class OfPython(Again):
             return tree
 
         with mock.patch.object(self, "first", first):
-            self.edit(lambda chance, tree: PythonTree(chance, tree).edit(), range(2), 5)
+            self.edit(lambda chance, tree: PythonTree(chance, tree).edit(), range(2), 4)
 
 
 if __name__ == "__main__":

@@ -4,6 +4,7 @@ and that the way back leads to where it began."""
 import os
 import unittest
 from collections import Counter
+from random import Random
 from typing import Optional
 
 from codenav.texts.moved.matching import ShortestEdit, patience, rising, sliding
@@ -171,6 +172,16 @@ class Rules(unittest.TestCase):
         self.assertIsNone(TextMap(old, new.replace("x", "y")).forward(0, 12))
 
 
+def longest(old: list[str], new: list[str]) -> int:
+    """The length of the longest common subsequence, by the table of all beginnings."""
+    row = [0] * (len(new) + 1)
+    for one in old:
+        before, row = row, [0]
+        for at, other in enumerate(new):
+            row.append(before[at] + 1 if one == other else max(row[at], before[at + 1]))
+    return row[-1]
+
+
 class Matching(unittest.TestCase):
     def test_rising(self) -> None:
         pairs = [(0, 4), (1, 1), (2, 2), (3, 0), (4, 3)]
@@ -186,6 +197,21 @@ class Matching(unittest.TestCase):
             ("xaay", "zaaw", []),
         ):
             self.assertEqual(patience(old, new), pairs, (old, new))
+
+    def test_patience_with_the_rest(self) -> None:
+        """At random: equal items that rise in both lists, and where none stands once, as many as a
+        shortest edit has."""
+        for seed in range(200):
+            random = Random(seed)
+            letters = "ab" if seed % 2 else "abcdefgh"
+            old, new = (random.choices(letters, k=random.randrange(14)) for _ in range(2))
+            pairs = patience(old, new, ShortestEdit(10**6, 10**6).pairs)
+            with self.subTest(seed):
+                self.assertEqual([old[x] for x, _ in pairs], [new[y] for _, y in pairs])
+                for one, other in zip(pairs, pairs[1:]):
+                    self.assertTrue(one[0] < other[0] and one[1] < other[1], pairs)
+                if min([*Counter(old).values(), *Counter(new).values()], default=2) > 1:
+                    self.assertEqual(len(pairs), longest(old, new))
 
     def test_shortest_edit(self) -> None:
         # the example of Myers's paper: a common subsequence of four

@@ -36,7 +36,7 @@ def search_page(browser: Browser, shown: Shown, parameters: Parameters) -> Itera
             parts.append(f'<p class="said">{label}{html(str(fault))}</p>')
         try:
             parts.append(lines_of(browser.texts(wanted, revision), wanted, revision))
-        except Refused as fault:
+        except (BadCall, Refused) as fault:
             parts.append(f'<p class="said bad" role="alert">{html(str(fault))}</p>')
     title = f"{wanted.text} - search" if wanted.text else "Search"
     yield framed(shown, title, f'<div class="past">{"".join(parts)}</div>') + END

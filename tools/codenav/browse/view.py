@@ -63,9 +63,12 @@ class View:
 
     @contextmanager
     def answering(self) -> Iterator[None]:
-        """Holds the lock for an answer, in which a file is read once."""
+        """Holds the lock for an answer, in which a file is read once, and a revision that git
+        doesn't know is looked up once."""
         with self.lock:
             self.texts.clear()
+            if self.checkout:
+                self.checkout.faults.clear()
             yield
 
     def text(self, path: str) -> str:

@@ -54,8 +54,11 @@ def moved_names(before: Mapping[At, Name], after: Mapping[At, Name]) -> Optional
 
 
 def moved_place(place: Place, moved: Mapping[At, At]) -> Optional[Place]:
-    """Where a place of a document is now whose names moved; None where that isn't known."""
+    """Where a place of a document is now whose names moved; None where that isn't known. What begins
+    where the document does is the whole of it."""
     to = moved.get(place.at)
+    if to is None and (place.line, place.start) == (0, 0):
+        return place
     if to is None:
         first = next(iter(moved.items()), None)
         is_above = first is not None and first[0] == first[1] and place.end_line < first[0][1]

@@ -4,6 +4,8 @@ import os
 from typing import Any
 
 ENDINGS = (".py", ".pyi", ".pyc", ".so")
+CACHE = "/__pycache__/"
+"""A part of the paths of what Python keeps of files, and may write again at any time."""
 
 
 def stem_of(path: str) -> str:
@@ -49,7 +51,7 @@ class Touched:
         if not path.startswith(self.ignored):
             if event == "os.scandir":
                 self.listed(path)
-            elif path.endswith(ENDINGS):
+            elif path.endswith(ENDINGS) and CACHE not in path:
                 self.file(path)
 
     def begin(self) -> None:
