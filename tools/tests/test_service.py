@@ -26,8 +26,10 @@ from codenav.service.folder import Serving, database_at, locked, serving_of, sid
 from codenav.service.front import told
 from codenav.service.hung import Watch, worked
 from codenav.service.locks import UNSEEN
-from codenav.service.refusals import Refusal, refusal_by
+from codenav.service.refusals import Refusal, refusal_by, refusal_of
 from codenav.service.standing import state_of
+from codenav.service.supervise import Supervisor
+from codenav.service.turning import How
 from tests.fronts import Front, fronted, lacking
 from tests.servers import TOP, command, free_row, program
 from tests.test_fronts import HOVER
@@ -384,6 +386,24 @@ class Starts(OnService):
             status, said = self.ended(waiting)
             self.assertEqual(status, 0, said)
             self.assertNotIn(is_said, said, "it's said once")
+
+    def test_a_holder_that_has_ended(self) -> None:
+        """That a database is damaged is a guess where somebody may have had it, so it's said where
+        it's so twice, one after the other."""
+        said: list[str] = []
+        shows = mock.Mock(warn=said.append)
+        how = How(Program(self.program), (self.port, self.port), 9)
+        supervisor = Supervisor(self.folder, how, None, shows)
+        database = database_at(self.folder, "a")
+        os.makedirs(os.path.dirname(database))
+        with open(database, "wb"):
+            pass
+        guess = refusal_of("codenav: store refused", database)
+        other = Refusal("it's in use", True)
+        rows = [(guess, True), (other, True), (guess, True), (guess, False)]
+        for refusal, may_wait in rows:
+            self.assertEqual(supervisor.may_wait(refusal), may_wait)
+        self.assertEqual(said, [other.text, f"{database} is damaged: restore a backup"])
 
     def test_a_second_service(self) -> None:
         """It waits until the first one has ended, and leaves what's known of that as it is."""

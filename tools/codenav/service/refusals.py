@@ -22,10 +22,12 @@ PORT = "codenav: cannot listen"
 
 @dataclass(frozen=True)
 class Refusal:
-    """The line that a person reads, and whether to try again without one."""
+    """The line that a person reads, and whether to try again without one; of a guess it's found out
+    by another try, since who had the database may have ended before that was looked at."""
 
     text: str
     may_pass: bool
+    is_guess: bool = False
 
 
 def refusal_of(said: str, database: str) -> Refusal:
@@ -82,4 +84,4 @@ def lasting(database: str) -> Refusal:
         return Refusal(f"{database} is no file", False)
     if os.path.exists(database) and os.stat(database).st_nlink > 1:
         return Refusal(f"{database} has a second name (a hard link), which has to go", False)
-    return Refusal(f"{database} is damaged: restore a backup", False)
+    return Refusal(f"{database} is damaged: restore a backup", False, True)

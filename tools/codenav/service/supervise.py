@@ -49,7 +49,7 @@ class Supervisor:
 
     def __init__(self, folder: str, how: How, front: Optional[str], shows: Shows) -> None:
         self.folder, self.how, self.front, self.shows = os.path.abspath(folder), how, front, shows
-        self.stops = self.turns_now = self.was_kept = False
+        self.stops = self.turns_now = self.was_kept = self.was_guessed = False
         self.side, self.turns, self.tries, self.last, self.refused = "", 0, 0, "", ""
         self.asked_before, self.looked, self.starts, self.measured = -1, 0.0, 0, 0.0
         self.pause = PAUSE
@@ -125,7 +125,7 @@ class Supervisor:
         while server.is_there() and not self.stops:
             if watch is None and server.listens():
                 watch = Watch(self.folder, longest() / 3)
-                self.refused, self.pause = "", PAUSE
+                self.refused, self.pause, self.was_guessed = "", PAUSE, False
                 said = f"serves {server.database} after {time.monotonic() - begin:.1f} s"
                 self.shows.warn(said)
                 say("READY=1", f"STATUS={said}")
@@ -232,7 +232,10 @@ class Supervisor:
 
     def may_wait(self, refusal: Refusal) -> bool:
         """Says once why no server can be started; answers whether another try may help, and not a
-        person alone."""
+        person alone. A guess counts when it comes twice."""
+        was_guessed, self.was_guessed = self.was_guessed, refusal.is_guess
+        if refusal.is_guess and not was_guessed:
+            return True
         if refusal.text != self.refused:
             self.shows.warn(refusal.text)
             say(f"STATUS={refusal.text}")
