@@ -163,7 +163,7 @@ class OfProjects(Served, InRepository):
             with self.replies({"places": [{**place, "uri": uri}]}) as asked:
                 _, body, _ = self.got(path)
                 found = json.loads(body)["places"]
-            own = None if "ci" in uri else "/files/kettle/lib.py#L1C5"
+            own = None if uri.startswith("file:///ci/") else "/files/kettle/lib.py#L1C5"
             self.assertEqual([row["href"] for row in found], [own])
         self.assertTrue(all(one.startswith("http://127.0.0.1:1/") for one in asked))
 
