@@ -19,7 +19,7 @@ from codenav.lsp.jsonrpc import Message, message_of, read_body, write_message
 
 NAMED = re.compile(r"^int (\w+)")
 WORD = re.compile(r"[A-Za-z_]\w*")
-KINDS = ("end", "hang", "lost", "late", "error", "no-json", "formless", "memory")
+KINDS = ("end", "hang", "lost", "late", "error", "no-json", "formless", "memory", "unread")
 TEXTS: dict[str, list[str]] = {}
 SIZE = 300 << 20
 
@@ -125,7 +125,7 @@ class Faults:
             return True
 
 
-def fail(kind: str, own: Any, taken: list[bytes]) -> Any:
+def fail(kind: str, own: Any, params: Any, taken: list[bytes]) -> Any:
     """Fails at a request; answers the message to send in place of the answer, or nothing."""
     if kind == "end":
         sys.exit(1)
@@ -138,6 +138,9 @@ def fail(kind: str, own: Any, taken: list[bytes]) -> Any:
         write_message(sys.stdout.buffer, b"{")
     if kind == "error":
         return {"id": own, "error": {"code": 1, "message": "failed"}}
+    if kind == "unread":
+        text = f"nothing is known of {params['textDocument']['uri']}"
+        return {"id": own, "error": {"code": 0, "message": text}}
     return {"id": own, "result": {"data": 7, "contents": 7}} if kind == "formless" else None
 
 
@@ -153,6 +156,10 @@ def serve() -> None:
         message: Message = message_of(body)
         method = str(message.get("method")).removeprefix("textDocument/")
         params = message.get("params")
+        if method == "initialized" and faults.kind == "unread":
+            send(method="$/progress", params={"token": 1, "value": {"kind": "begin"}})
+            text = "2026/02/01 10:20:30 loading failed:\n\tno such module"
+            send(method="window/logMessage", params={"type": 1, "message": text})
         if method == "didOpen":
             document = message["params"]["textDocument"]
             TEXTS[document["uri"]] = document["text"].split("\n")
@@ -162,7 +169,7 @@ def serve() -> None:
             continue
         reply: Any = None
         if faults.kind and faults.is_due(method, params):
-            reply = fail(faults.kind, message["id"], taken)
+            reply = fail(faults.kind, message["id"], params, taken)
             if faults.kind == "late":
                 time.sleep(1)
             elif reply is None:

@@ -246,6 +246,12 @@ class Failing(OnFolder):
                 self.assertEqual((status, self.body()), (2, whole), said)
                 self.assertIn("words none leads anywhere; left out: ", said)
 
+    def test_unread(self) -> None:
+        status, said = self.stood_in("--patience", "1", FAULT="unread semanticTokens/full * always")
+        self.assertEqual(status, 2, said)
+        self.assertIn("/code, and says: loading failed: no such module", said)
+        self.assertIn("words: error 0: nothing is known of this: 3, the first at", said)
+
     def test_no_room(self) -> None:
         """Without room for its files a server isn't started, nor again: some hang then each time."""
         whole, full = self.whole(), OSError(errno.ENOSPC, "No space left on device")

@@ -127,7 +127,8 @@ class Asking:
             count += 1
             self.shows.at(count)
             if fault and not any(text in fault for text in NO_ANSWER):
-                self.leave_out(f"{what}: {fault}", tag)
+                own = asked[tag]["textDocument"]["uri"]
+                self.leave_out(f"{what}: {fault.replace(own, 'this')}", tag)
             elif fault or not result:
                 empty += 1
             else:

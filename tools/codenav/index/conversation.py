@@ -21,10 +21,12 @@ AGAIN = (-32801, -32802)
 MOST_AGAIN, MOST_IN_VAIN = 20, 8
 STEP_SECONDS = 0.2
 ERROR = 1
+SAID, MOST_SAID = ("window/logMessage", "window/showMessage"), 300
 STARTING = 4
 """So many times longer than else a server may say nothing at its start."""
 FIXES = re.compile(r" \(fix(?:es)? available\)$", re.MULTILINE)
 """What clangd says behind an error or doesn't, by what else is open."""
+DATE = re.compile(r"^[\d/]+ [\d:]+ ")
 READY = "ready"
 """The question by which ccls is asked whether it's ready."""
 
@@ -48,6 +50,7 @@ class Conversation:
         self.read, self.active, self.is_quiet = set[str](), set[str](), False
         self.info: Any = None
         self.shown: dict[str, list[Any]] = {}
+        self.fault = ""
         self.number = self.restarts = self.vain = 0
         self.dead, self.end = "", time.monotonic() + self.limits.seconds
         self.process: Optional[Process] = None
@@ -145,6 +148,9 @@ class Conversation:
                 for one in found
                 if one.get("severity", ERROR) == ERROR
             ]
+        elif method in SAID and params.get("type") == ERROR:
+            text = DATE.sub("", " ".join(str(params.get("message")).split()))
+            self.fault = self.fault or text[:MOST_SAID]
         elif method == STATUS:
             self.is_quiet = params.get("quiescent") is True
         elif method == HIGHLIGHTS:

@@ -120,7 +120,8 @@ class Server:
             talk.open(*self.documents[uri])
         if not talk.settle():
             what = "the server wasn't ready, and was asked all the same"
-            notes.leave_out(what, self.given.folder)
+            said = f", and says: {talk.first.fault}" if talk.first.fault else ""
+            notes.leave_out(what, f"{self.given.folder}{said}")
         shows.end(f"{len(new)} files")
 
     def ask(self, talk: Team) -> Answers:
