@@ -21,6 +21,7 @@ import sys
 import tempfile
 from collections import Counter
 from concurrent.futures import ThreadPoolExecutor
+from importlib.util import find_spec
 from pathlib import Path
 from typing import Any, Union
 
@@ -34,6 +35,7 @@ from codenav.sets.files import MANIFEST, read_documents, read_head
 
 # Of all calls and their errors each run of the gate tries one of so many shares.
 TURNS = 29
+SCIP = "prepare-scip"
 # what the help of `prepare` has status 1 for
 UNREAD = "left out: document whose file can't be read"
 HOW = {KILL: "killed at", FULL: "the disk is full from here on"}
@@ -211,6 +213,9 @@ def main() -> int:
         )
         turn = int(counted.stdout)
     wanted = given.only.split(",") if given.only else [*(word.name for word in WORDS), *SERVICE]
+    if SCIP in wanted and find_spec("google") is None:
+        wanted.remove(SCIP)
+        print(f"{SCIP}: left out: it needs Debian's package python3-protobuf", flush=True)
     each = TURNS if given.gate else given.each
     program = Program(os.path.abspath(given.program))
     with tempfile.TemporaryDirectory() as folder, ThreadPoolExecutor(given.jobs) as pool:

@@ -1,6 +1,8 @@
 """Debian's packages that some tests need: without one they're skipped, with a line that names
 it."""
 
+import shutil
+import subprocess
 import unittest
 from importlib.util import find_spec
 
@@ -13,3 +15,10 @@ def needs(module: str, package: str) -> None:
         found = False
     if not found:
         raise unittest.SkipTest(f"it needs Debian's package {package}")
+
+
+def has_rust_analyzer() -> bool:
+    """Whether rust-analyzer is here, and not only what calls one of a toolchain."""
+    if not shutil.which("rust-analyzer") or not shutil.which("cargo"):
+        return False
+    return subprocess.run(["rust-analyzer", "--version"], capture_output=True).returncode == 0

@@ -7,6 +7,7 @@ import tempfile
 import subprocess
 import sys
 import unittest
+from sysconfig import get_path
 from typing import Any
 
 from codenav.index.python.answers import Answering
@@ -348,7 +349,8 @@ class Rules(unittest.TestCase):
             os.makedirs(os.path.dirname(path), exist_ok=True)
             with open(path, "wb") as out:
                 out.write(body)
-        answering = Answering(Modules(folder, [], stubs()), None, lambda: None)
+        own = stubs() or [get_path("stdlib")]
+        answering = Answering(Modules(folder, [], own), None, lambda: None)
         return {name: answering.of(os.path.join(folder, name)) for name in files}
 
     @staticmethod

@@ -4,22 +4,15 @@ itself."""
 import json
 import os
 import re
-import shutil
 import subprocess
 import unittest
 from collections import defaultdict
 
 from tests import test_index_again
+from tests.packages import has_rust_analyzer
 from tests.test_index import OnFolder, vertices
 
 Spot = tuple[str, int, int]
-
-
-def is_installed() -> bool:
-    """Whether rust-analyzer is here, and not only what calls one of a toolchain."""
-    if not shutil.which("rust-analyzer") or not shutil.which("cargo"):
-        return False
-    return subprocess.run(["rust-analyzer", "--version"], capture_output=True).returncode == 0
 
 
 def definitions(path: str) -> dict[Spot, list[Spot]]:
@@ -55,7 +48,7 @@ def definitions(path: str) -> dict[Spot, list[Spot]]:
     return answers
 
 
-@unittest.skipUnless(is_installed(), "rust-analyzer isn't installed")
+@unittest.skipUnless(has_rust_analyzer(), "rust-analyzer isn't installed")
 class Rust(OnFolder):
     files = {
         "Cargo.toml": '[package]\nname = "shapes"\nversion = "1.2.0"\nedition = "2021"\n',
@@ -142,7 +135,7 @@ pub fn square(side: u8) -> Side { Side { side, pair: super::pair() } }
         self.assertEqual({spot: found.get(spot) for spot in wanted}, wanted)
 
 
-@unittest.skipUnless(is_installed(), "rust-analyzer isn't installed")
+@unittest.skipUnless(has_rust_analyzer(), "rust-analyzer isn't installed")
 class Files(test_index_again.Again):
     """A module whose file came, or is gone, is asked for again where it's named."""
 

@@ -15,6 +15,7 @@ from codenav.settings.found import FILE
 from codenav.texts.places import uri_of
 from tests.in_process import InProcess
 from tests.lsp_shapes import RESULTS, fault_in
+from tests.packages import needs
 from tests.randomly import check_cases
 from tests.repository import InRepository
 from tests.servers import TOP, OnServer
@@ -262,6 +263,7 @@ class Kept(OnServer, InRepository):
         for words, left, path, spare in rows:
             with self.subTest(words, left=left), mock.patch.object(more, "SPARE", spare):
                 if path:
+                    needs("google.protobuf", "python3-protobuf")
                     demo = os.path.join(TOP, "demo", "crate")
                     given = ["--no-tags", *words, "--dump", path, self.url, "crate", demo]
                     status, out, said = quietly(PUBLISH.main, *given)

@@ -17,6 +17,7 @@ from dataclasses import dataclass, field
 from typing import Iterator
 
 from codenav.program import free_port
+from tests.packages import has_rust_analyzer
 from tests.servers import NOT_BUILT, TOP, built_program
 
 PAGES = [
@@ -316,6 +317,8 @@ class Pages(unittest.TestCase):
         if built is None:
             self.skipTest(NOT_BUILT)
         missing = [package for name, package in NEEDED.items() if not shutil.which(name)]
+        if not missing and not has_rust_analyzer():
+            missing = [NEEDED["rust-analyzer"]]
         if missing:
             self.skipTest(f"the examples need: apt-get install {' '.join(missing)}")
         for pages, called_in in SESSIONS.items():

@@ -10,6 +10,7 @@ from urllib.parse import quote
 
 from codenav.browse.listed import MOST_PLACES
 from codenav.settings.found import Settings
+from tests.packages import needs
 from tests.test_browse import PLACE, Served
 
 FILES, EACH = 250, 12
@@ -96,6 +97,8 @@ class Panel(Served, unittest.TestCase):
             "<h1>main.rs</h1>",
         ):
             self.assertIn(text, body)
+        self.assertIn('<a href="/files/src/main.rs">main.rs</a>', self.got("/files/src")[1])
+        needs("markdown_it", "python3-markdown-it")
         body = self.got("/")[1]
         for text in (
             '<li><a href="/files/src">src/</a></li>',
@@ -103,7 +106,6 @@ class Panel(Served, unittest.TestCase):
             '<a href="https://w.example/" rel="noopener noreferrer">web</a> [no](javascript:x)',
         ):
             self.assertIn(text, body)
-        self.assertIn('<a href="/files/src/main.rs">main.rs</a>', self.got("/files/src")[1])
 
 
 if __name__ == "__main__":

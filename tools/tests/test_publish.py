@@ -35,6 +35,7 @@ from codenav.service import digests
 from codenav.sets.files import MANIFEST, read_documents
 from codenav.sets.publish.publish import Publish as Made
 from codenav.sets.publish.store import Store
+from tests.packages import needs
 from tests.repository import git_in
 from tests.servers import SECONDS, STAND_IN, TOP, OnServer, command
 from tests.test_set_service import asked_at
@@ -44,6 +45,12 @@ SCIP = os.path.join(TOP, "demo", "crate.scip")
 MAP = ["--map", f"file:///src/tr/crate={CRATE}"]
 PLACE = ["definition", os.path.join(CRATE, "src", "lib.rs"), "18", "12"]
 DEFINITION = os.path.join(CRATE, "src", "scale.rs") + ":4:8\n"
+
+
+def may_be_read(words: list[str]) -> None:
+    """Skips what takes a SCIP index, where nothing reads one."""
+    if any(SCIP in word for word in words):
+        needs("google.protobuf", "python3-protobuf")
 
 
 def script(path: str, *lines: str) -> str:
@@ -234,6 +241,7 @@ class Publish(OnCheckout):
         ctags = shutil.which("ctags")
         for words, with_tags, revision, said in rows:
             with self.subTest(words, with_tags=with_tags):
+                may_be_read(words)
                 git_in(self.checkout, "reset", "-q", "--hard", commit)
                 script(os.path.join(self.bin, "ctags"), with_tags, f'exec {ctags} "$@"')
                 shutil.rmtree(kept, ignore_errors=True)
@@ -305,6 +313,7 @@ class Publish(OnCheckout):
             ["--indexer", "rust-analyzer"],
         ):
             with self.subTest(words):
+                may_be_read(words)
                 status, said, _ = self.published(
                     "--no-tags", "--profile", "2", *words, "app", self.checkout
                 )
@@ -330,6 +339,7 @@ class Publish(OnCheckout):
         for option in "--no-tags", "--set":
             with self.subTest(where, option=option):
                 call = ["--no-tags", option, "--dump", dump, "app", self.checkout]
+                may_be_read(call)
                 status, said, warned = self.published(*call)
                 self.assertEqual(status, 0, warned)
                 of = f"documents are below {where}: elsewhere ask with --map "
@@ -536,12 +546,18 @@ class Publish(OnCheckout):
                 2,
                 r"the indexer ended with status 3: .*: a \| b",
             ),
+            (
+                ["--index", "echo 'error: no lint'>&2; seq 9 >&2; exit 1"],
+                2,
+                "the indexer ended with status 1: .*: error: no lint$",
+            ),
             (["--index", "true"], 2, "the indexer wrote nothing: true"),
             (["--indexer", "none"], 2, "no indexer 'none' is known"),
             (["--program", "/no/codenav"], 2, "/no/codenav: no program"),
             (["--no-index", "--no-tags"], 2, "crate: there are no tags$"),
         ):
             with self.subTest(words):
+                may_be_read(words)
                 found, printed, stages = self.published(*words, "app", self.checkout)
                 self.assertEqual((found, printed, listed(self.url)), (status, [], []), stages)
                 self.assertRegex(
@@ -651,6 +667,7 @@ class Publish(OnCheckout):
     def test_a_set_of_an_index(self) -> None:
         """A SCIP index becomes a set by itself, without a dump of it, by --set or where its dump
         would be too large."""
+        may_be_read([SCIP])
         kept = os.path.join(self.home, "kept")
         cases: list[tuple[list[str], int]] = [(["--set", "--keep", kept], 100_000), ([], 100)]
         for words, most in cases:
@@ -666,6 +683,7 @@ class Publish(OnCheckout):
 
     def test_without_documents(self) -> None:
         """A document that is left out of an index is left out of a project and of a set alike."""
+        may_be_read([SCIP])
         path = os.path.join(self.home, "kept", "set")
         call = ["--no-tags", "--dump", SCIP, "--without", "*scale.rs", "--keep"]
         self.assertEqual(self.published(*call, self.home + "/one", "app", self.checkout)[0], 0)

@@ -131,10 +131,11 @@ def left(indexer: Indexer, marks: list[str]) -> str:
 
 
 def tail_of(path: str) -> str:
-    """The last lines of a log, as one."""
+    """The first line of a log that says that it's an error, else its last ones, as one."""
     with open(path, encoding="utf-8", errors="replace") as log:
         lines = [line.strip() for line in log if line.strip()]
-    return " | ".join(lines[-TAIL_LINES:])
+    errors = [line for line in lines if line.lower().startswith(("error:", "fatal:"))]
+    return errors[0] if errors else " | ".join(lines[-TAIL_LINES:])
 
 
 @contextmanager
