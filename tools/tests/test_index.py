@@ -164,6 +164,25 @@ class Answers(OnFolder):
             }
         )
 
+    def test_manifests(self) -> None:
+        """What says how files are built is missed where it's beside no file and above none."""
+        deep = os.path.join(self.folder, "deep", "src")
+        os.makedirs(deep)
+        for name, text in ("three.c", "int three() { }\n"), ("readme", ""):
+            with open(os.path.join(deep, name), "w", encoding="utf-8") as file:
+                file.write(text)
+        for at, is_missed in ("", True), ("other", True), ("deep", False), ("deep/src", False):
+            path = os.path.join(self.folder, at, "compile_commands.json")
+            if at:
+                os.makedirs(os.path.dirname(path), exist_ok=True)
+                with open(path, "w", encoding="utf-8") as file:
+                    file.write("[]")
+            with self.subTest(at=at):
+                said = self.stood_in()[1]
+                self.assertEqual("to mind: no compile_commands.json" in said, is_missed, said)
+            if at:
+                os.unlink(path)
+
     def test_monikers(self) -> None:
         """What a header declares is exported from where it's defined."""
         self.stood_in()
@@ -543,13 +562,48 @@ int first(struct box *box) {
         self.assertEqual(names, {f"api.h:{name}" for name in wanted})
 
     def test_errors(self) -> None:
-        """What is said of a file that has errors isn't what else is open."""
-        with open(os.path.join(self.folder, "lone.c"), "w", encoding="utf-8") as file:
-            file.write("int lone(void) { return 1 }\n")
-        status, said = self.index()
-        self.assertEqual(status, 1, said)
-        self.assertIn("lone.c: Expected ';' after return statement", said)
-        self.assertNotIn("available", said)
+        """What is said of a file that has errors is on one line, and isn't what else is open."""
+        rows = {
+            "int lone(void) { return 1 }\n": "lone.c: Expected ';' after return statement",
+            "int lone;\nchar lone;\n": "lone.c: Redefinition of 'lone' with a different type: 'char' vs"
+            " 'int' lone.c:1:5: note: previous definition is here",
+        }
+        for text, wanted in rows.items():
+            with self.subTest(text=text):
+                with open(os.path.join(self.folder, "lone.c"), "w", encoding="utf-8") as file:
+                    file.write(text)
+                status, said = self.index()
+                self.assertEqual(status, 1, said)
+                self.assertTrue(said.endswith(wanted), said)
+
+
+@unittest.skipUnless(shutil.which("clangd"), "clangd isn't installed")
+class DefinedTwice(OnFolder):
+    """A function that two programs of a folder define."""
+
+    files = {
+        "api.h": "int run(void);\n",
+        "one.c": '#include "api.h"\nint run(void) { return 1; }\nint first(void) { return run(); }\n',
+        "two.c": '#include "api.h"\nint run(void) { return 2; }\n',
+        "use.c": '#include "api.h"\nint use(void) { return run(); }\n',
+    }
+
+    def test_answers(self) -> None:
+        """What declares and uses it leads to both, but a file that has one to that."""
+        self.assertEqual(self.index()[0], 0)
+        both = ["one.c:1", "two.c:1"]
+        rows: dict[tuple[str, str, int, int], Any] = {
+            ("definition", "use.c", 1, 23): both,
+            ("definition", "api.h", 0, 4): both,
+            ("definition", "one.c", 1, 4): ["one.c:1"],
+            ("definition", "one.c", 2, 25): ["one.c:1"],
+            ("definition", "two.c", 1, 4): ["two.c:1"],
+            ("references", "one.c", 1, 4): ["api.h:0", "one.c:1", "one.c:2", "use.c:1"],
+            ("references", "two.c", 1, 4): ["api.h:0", "two.c:1", "use.c:1"],
+        }
+        for name, line, character in ("use.c", 1, 23), ("one.c", 1, 4), ("two.c", 1, 4):
+            rows["declaration", name, line, character] = ["api.h:0"]
+        self.assert_answers(rows)
 
 
 @unittest.skipUnless(shutil.which("ccls"), "ccls isn't installed")

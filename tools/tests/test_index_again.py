@@ -6,20 +6,21 @@ import random
 import re
 import shutil
 import unittest
-from typing import Callable
+from typing import Any, Callable
 from unittest import mock
 
 from codenav.index.again import declared
 from codenav.index.answers import Name, Place
-from codenav.index.asked import Asking
+from codenav.index.asked import Asking, names_in, words_in
 from codenav.index.kept import Kept, Known, read
-from codenav.index.surfaces import go_surface, moved_names, moved_place
+from codenav.index.shifted import moved_names, moved_place
+from codenav.index.surfaces import c_surface, go_surface
 from codenav.index.typescript import checker
 from tests.test_index import OnFolder
 
 Tree = dict[str, str]
 Edit = Callable[[random.Random, Tree], None]
-FAULTS = re.compile("has errors for the server|what isn't Python")
+FAULTS = re.compile("errors in a file hide|what isn't Python")
 
 
 class Again(OnFolder):
@@ -44,6 +45,13 @@ class Again(OnFolder):
         whole_status, whole = self.call()
         self.assertEqual((whole_status, self.body()), (0, kept), f"{said}\n{whole}")
         return said
+
+    def documents_again(self) -> list[str]:
+        """The files that a call asks again which keeps answers; has its dump be that of one that doesn't."""
+        documents = Asking.documents
+        with mock.patch.object(Asking, "documents", autospec=True, side_effect=documents) as asked:
+            self.again()
+        return [os.path.basename(uri) for uri in asked.mock_calls[0].args[1]]
 
     def put(self, tree: Tree) -> None:
         """Has the folder have these files."""
@@ -96,6 +104,36 @@ class Declared(unittest.TestCase):
                     self.assertEqual(declared(names, kept, ["file:///a"]), (words, differs))
 
 
+class Listed(unittest.TestCase):
+    """The words and the names that a server lists."""
+
+    def test_tokens(self) -> None:
+        """What is no name is no word: signs and literals have tokens with rust-analyzer."""
+        types = ["attributeBracket", "attribute", "macro", "macroBang", "boolean", "lifetime"]
+        data = [number for kind in range(len(types)) for number in (0, 2, 1, kind, 0)]
+        words = [word.start for word in words_in("u", data, types, lambda _: False)]
+        self.assertEqual(words, [4, 6, 12])
+
+    def test_macros(self) -> None:
+        """The use of a macro is none, but what it makes, as what is around the macro has it."""
+
+        def node(name: str, kind: int, *children: Any) -> dict[str, Any]:
+            ends = {"line": 1, "character": 2}
+            whole = {"start": ends, "end": ends}
+            shown = {"range": whole, "selectionRange": whole, "children": children}
+            return {"name": name, "kind": kind, **shown}
+
+        made = node("MADE", 15, node("MORE", 15, node("f", 12)), node("s", 23, node("m", 8)))
+        for found, wanted in (
+            ([made], [((), "f"), ((), "s"), (("s",), "m")]),
+            ([node("f", 12), made], [((), "f"), ((), "f#2"), ((), "s"), (("s",), "m")]),
+            ([node("s", 23, made)], [((), "s"), (("s",), "f"), (("s",), "s"), (("s", "s"), "m")]),
+            ([node("empty", 15)], [((), "empty")]),
+        ):
+            names = [(name.around, name.name) for _, name in names_in("u", found)]
+            self.assertEqual(names, wanted)
+
+
 class Surfaces(unittest.TestCase):
     def test_go(self) -> None:
         """Texts that differ in bodies alone have one surface, and no others have."""
@@ -124,6 +162,34 @@ class Surfaces(unittest.TestCase):
         for start in ("var s = `\nfunc x() {\n`\n", "var f = func() int { return %d }\n"):
             texts = {go_surface(one + start.replace("%d", n) + f"type U{n} int\n") for n in "12"}
             self.assertEqual(len(texts), 2)
+
+    def test_c(self) -> None:
+        """The same of C; bodies with what may be for other files are kept."""
+        one = '#include "a.h"\n\n// F is.\nint f(int x) { return 1; }\n\nstruct t { int a; };\n'
+        rows = {
+            ("return 1", "return 2"): True,
+            ("return 1", "return '{' + g(\"}\") /* } */; // }\n"): True,
+            ("return 1", "if (x) g(1); else g(2); for (;;) { return g(3); }"): True,
+            ("return 1", "\n#define X\n return 1"): False,
+            ("return 1", "extern int v"): False,
+            ("return 1", "int *g(int); return g(1)"): False,
+            ("return 1", "; unsigned int g(int, char *)"): False,
+            ("return 1; }", ""): False,
+            ("return 1", "return '"): False,
+            ("{ return 1; }", ";"): False,
+            ("{ return 1; }", "BEGIN return 1; }"): False,
+            ("int f", "static int f"): False,
+            ("F is", "F was"): False,
+            ("int x", "int y"): False,
+            ("int a", "int b"): False,
+            ("struct t", "int u; struct t"): False,
+            ("a.h", "b.h"): False,
+        }
+        for (old, new), wanted in rows.items():
+            with self.subTest(old=old, new=new):
+                self.assertIn(old, one)
+                is_same = c_surface(one) == c_surface(one.replace(old, new))
+                self.assertEqual(is_same, wanted)
 
     def test_moved(self) -> None:
         """A place is known to be where its name is now, or above all that may have moved."""
@@ -162,15 +228,27 @@ class StoodIn(Again):
         self.assertEqual((status, os.path.exists(mark)), (0, False), said)
 
     def test_faults(self) -> None:
-        """What wasn't answered is asked the next time."""
-        fault = "error {} * once"
-        for method in ("definition", "hover", "documentSymbol", "semanticTokens/full"):
+        """What wasn't answered is asked the next time, and nothing else."""
+        rows: dict[str, tuple[list[str], int]] = {
+            "definition": ([], 1),
+            "hover": ([], 0),
+            "documentSymbol": (["api.h", "one.c", "two.c"], 12),
+            "semanticTokens/full": (["api.h"], 2),
+        }
+        for method, (files, words) in rows.items():
             with self.subTest(method=method):
                 mark = os.path.join(self.home, method.replace("/", " "))
-                variables = {"FAULT": fault.format(method), "FAILED": mark}
-                status, said = self.stood_in("--state", self.state, **variables)
+                fault = {"FAULT": f"error {method} * once", "FAILED": mark}
+                status, said = self.stood_in("--state", self.state, **fault)
                 self.assertEqual(status, 1, said)
-                self.again()
+                with mock.patch.object(
+                    Asking, "ask", autospec=True, side_effect=Asking.ask
+                ) as asked:
+                    self.assertEqual(self.documents_again(), files)
+                many = [
+                    len(call.args[3]) for call in asked.mock_calls if call.args[2] == "definition"
+                ]
+                self.assertEqual(sum(many[: -len(many) // 2]), words)
                 os.unlink(self.state)
 
     def test_other_state(self) -> None:
@@ -229,13 +307,42 @@ class StoodIn(Again):
 HEADER = "int f0(int);\nint f1(int);\nint f2(int);\n#define LIMIT 7\nstruct box { int side; };\n"
 
 
+LINES = (
+    ("int shown;", "extern int shown;", "static int shown;"),
+    ("int f4(int a) { return a + shown; }", "int f4(int a);", "static int f4(int a) { return a; }"),
+    ("MADE(f3) { return a; }", "MADE(f3);", "MADE(f2) { return a; }"),
+    (
+        "int f3(int a) { int f4(int); return f4(a); }",
+        "int f3(int a) { extern int shown; return shown; }",
+    ),
+    ("int f2(int a) {\n#define LIMIT 3\n  return LIMIT;\n}", "int f2(int a) {\n  return a;\n}"),
+)
+"""Lines that files of C may have, each in ways of which one may come in another's place."""
+
+
+def edit_lines(chance: random.Random, text: str) -> str:
+    """A text of C with another of such lines, or with another body."""
+    every = [line for lines in LINES for line in lines if line in text]
+    if every and chance.random() < 0.6:
+        old = chance.choice(every)
+        return text.replace(old, chance.choice(next(lines for lines in LINES if old in lines)))
+    if chance.random() < 0.6:
+        name = f"f{chance.randrange(5)}"
+        return re.sub(r"\{\s*return \w+\(a\)", f"{{\n  return {name}(a)", text)
+    made = "#define MADE(x) int x(int a)\n"
+    return f"{text}{'' if made in text else made}{chance.choice(chance.choice(LINES))}\n"
+
+
 def edit_c(chance: random.Random, tree: Tree) -> None:
     """Has a program of C differ a little."""
     names = [f"f{number}" for number in range(5)]
     one, two = chance.choice(names), chance.choice(names)
     file = chance.choice(["a.c", "b.c", "c.c", "d.c"])
-    kind = chance.randrange(7)
-    if kind == 0:
+    kind = chance.randrange(11)
+    if kind > 6:
+        file = chance.choice([name for name in sorted(tree) if name.endswith(".c")])
+        tree[file] = edit_lines(chance, tree[file])
+    elif kind == 0:
         tree["all.h"] = "\n".join(f"int {name}(int);" for name in names) + (
             f"\n#define LIMIT {one}(2)\nstruct box {{ int {chance.choice(['side', 'other'])}; }};\n"
         )
@@ -243,7 +350,7 @@ def edit_c(chance: random.Random, tree: Tree) -> None:
         tree["more.h"] = chance.choice(
             ["int f4(int);\n", "typedef struct box own;\n", "#define f3 f4\n"]
         )
-    elif kind == 2 and file in tree:
+    elif kind == 2 and file in tree and len(tree) > 2:
         del tree[file]
     else:
         include = chance.choice(["all.h", "more.h", "none.h"])
@@ -264,7 +371,17 @@ class OfC(Again):
     }
 
     def test_edits(self) -> None:
-        self.edit(edit_c, range(2), 6)
+        self.edit(edit_c, range(3), 8)
+
+    def test_bodies(self) -> None:
+        """A body that changed has no other file asked again, which leads to where names are now."""
+        self.again()
+        text = self.files["a.c"] + "int f2(int a) { return f0(a); }\n"
+        self.put({**self.files, "a.c": text})
+        self.again()
+        self.put({**self.files, "a.c": text.replace("{ return f1(a)", "{\n  a++;\n  return f1(a)")})
+        self.assertEqual(self.documents_again(), ["a.c"])
+        self.assert_answers({("definition", "all.h", 2, 4): ["a.c:4"]})
 
 
 BODIES = (
@@ -349,12 +466,7 @@ class OfGo(OfC):
         self.again()
         body = "{\n\tx := 1\n\treturn x\n}"
         self.put({**self.files, "a/a.go": self.files["a/a.go"].replace("{ return 1 }", body)})
-        with mock.patch.object(
-            Asking, "documents", autospec=True, side_effect=Asking.documents
-        ) as documents:
-            self.again()
-        names = [[os.path.basename(uri) for uri in call.args[1]] for call in documents.mock_calls]
-        self.assertEqual(names[0], ["a.go"])
+        self.assertEqual(self.documents_again(), ["a.go"])
         self.assert_answers(
             {
                 ("definition", "e/e.go", 4, 12): ["a.go:11"],

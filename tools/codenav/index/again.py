@@ -16,6 +16,8 @@ INCLUDE = re.compile(
 WORD = re.compile(r"[^\W\d]\w*")
 PLAIN = {12, 13, 14}
 """Kinds of symbols that no type has: function, variable, constant."""
+MEMBERS = {7, 8, 22}
+"""Kinds of symbols that are known where their type is: property, field, member of an enum."""
 
 
 def includes(documents: Iterable[Document]) -> dict[str, set[str]]:
@@ -122,6 +124,16 @@ def declared(names: Mapping[At, Name], kept: Kept, uris: Iterable[str]) -> tuple
         ]
         differs = differs or own[0] != own[1]
     return words, differs
+
+
+def declaring(kept: Kept, words: set[str]) -> set[str]:
+    """The documents that declare names with such words, but for what is known where its type is."""
+    return {
+        at[0]
+        for known in kept.documents.values()
+        for at, name in known.names.items()
+        if name.kind not in MEMBERS and not words.isdisjoint(words_of(name.name))
+    }
 
 
 def words_of(text: str) -> set[str]:

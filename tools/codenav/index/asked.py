@@ -5,7 +5,7 @@ What a server answers at a word without a token is a guess by the name: in code 
 in the body of a macro, in a text. So nothing is asked there.
 """
 
-from collections import Counter
+from collections import Counter, defaultdict
 from typing import Any, Callable, Container, Iterable, Iterator
 
 from codenav.addresses import spelled
@@ -18,11 +18,28 @@ from codenav.kinds import hover_text
 from codenav.outcome import Notes
 from codenav.progress import Shows
 
-NO_NAMES = {"comment", "keyword", "string", "number", "regexp", "operator", "modifier"}
+NO_NAMES = {
+    *("comment", "keyword", "string", "number", "regexp", "operator", "modifier", "boolean"),
+    *(
+        "angle",
+        "arithmetic",
+        "attributeBracket",
+        "bitwise",
+        "brace",
+        "bracket",
+        "character",
+        "colon",
+    ),
+    *("comma", "comparison", "dot", "escapeSequence", "formatSpecifier", "logical", "macroBang"),
+    *("parenthesis", "punctuation", "semicolon"),
+}
+"""Types of tokens that are no names: the protocol's, and rust-analyzer's."""
 IMPLEMENTED = {5, 6, 10, 11, 12, 23}
 """Kinds of symbols that may have implementations: class, method, enum, interface, function, struct."""
 CALLED = {6, 9, 12}
 """Kinds of symbols that are called: method, constructor, function."""
+MACRO = 15
+"""As what kind clangd lists the use of a macro that makes names: it has no kind for one."""
 NO_ANSWER = ("no object found", "no identifier found", "not a type name", "no type info")
 """How errors begin or go on that mean that there's nothing at a place: they have no code of their
 own."""
@@ -68,11 +85,19 @@ def words_in(
             yield word
 
 
+def unwrapped(found: Iterable[Any]) -> Iterator[Any]:
+    """The names of a tree's level, with what macros make in place of them."""
+    for one in found:
+        is_macro = one["kind"] == MACRO and one.get("children")
+        yield from unwrapped(one["children"]) if is_macro else (one,)
+
+
 def names_in(uri: str, found: Any, around: tuple[str, ...] = ()) -> Iterator[tuple[Place, Name]]:
     """The names that a document declares, by the protocol's tree or list. Of several with one name
     side by side those that are called have their types too, as a server says them, and all but
-    the first of what is still the same have a number."""
-    found, seen = list(found or ()), Counter[str]()
+    the first of what is still the same have a number. The use of a macro is none, but what it makes.
+    """
+    found, seen = list(unwrapped(found or ())), Counter[str]()
     named = Counter(one["name"] for one in found)
     for one in found:
         place = place_in(uri, one.get("selectionRange") or one["location"]["range"])
@@ -96,8 +121,8 @@ def at(place: Place) -> dict[str, Any]:
 
 
 class Asking:
-    """Asks a server of documents that are open in it. What isn't answered for a fault is noted; and so
-    are places by whose addresses the server may mean others."""
+    """Asks a server of documents that are open in it. What isn't answered for a fault is noted, and kept
+    by what it was asked; and so are places by whose addresses the server may mean others."""
 
     def __init__(
         self, talk: Team, lines: Lines, notes: Notes, shows: Shows, unsure: Container[str] = ()
@@ -105,7 +130,7 @@ class Asking:
         """Raises BadCall where the server has no tokens."""
         self.talk, self.lines, self.notes, self.shows = talk, lines, notes, shows
         self.unsure = unsure
-        self.found, self.faulty = Answers(), set[Any]()
+        self.found, self.faulty = Answers(), defaultdict[str, set[Any]](set)
         legend = (talk.first.offers.get("semanticTokensProvider") or {}).get("legend") or {}
         self.types: list[str] = legend.get("tokenTypes") or []
         if not self.types and not talk.first.shown:
@@ -126,38 +151,44 @@ class Asking:
         for tag, result, fault in self.talk.answers(questions):
             count += 1
             self.shows.at(count)
+            why = ""
             if fault and not any(text in fault for text in NO_ANSWER):
-                own = asked[tag]["textDocument"]["uri"]
-                self.leave_out(f"{what}: {fault.replace(own, 'this')}", tag)
+                why = fault.replace(asked[tag]["textDocument"]["uri"], "this")
             elif fault or not result:
                 empty += 1
             else:
                 try:
                     take(tag, result)
                 except FORMLESS:
-                    self.leave_out(f"{what}: an answer without the protocol's form", tag)
+                    why = "an answer without the protocol's form"
+            if why:
+                self.notes.leave_out(f"{what}: {why}", str(tag))
+                self.faulty[method].add(tag)
         self.shows.end(f"{count} asked, {empty} empty")
 
     def documents(self, uris: list[str]) -> None:
         """Asks for the words of documents and for the names that they declare, and where each word
         leads, one document after the other: a server keeps few of them ready."""
-        words = dict[Place, Any]()
+        words = list[Place]()
 
         def take(uri: str, result: Any) -> None:
-            for word in words_in(uri, result["data"], self.types, self.is_keyword):
-                words[word] = at(word)
+            words.extend(words_in(uri, result["data"], self.types, self.is_keyword))
 
         if self.types:
             whole = {uri: {"textDocument": {"uri": uri}} for uri in uris}
             self.ask("words", "semanticTokens/full", whole, take)
         for uri in [] if self.types else uris:
             shown = {place_in(uri, span) for span in self.talk.first.shown.get(uri, ())}
-            words |= {word: at(word) for word in sorted(shown) if word.line == word.end_line}
+            words += [word for word in sorted(shown) if word.line == word.end_line]
         self.outlines("names", uris)
         self.found.words |= {word.at: word for word in words}
-        before = len(self.found.leads)
-        self.ask("definitions", "definition", words, self.take_places(self.found.leads))
-        self.found.empty += len(words) - len(self.found.leads) + before
+        self.definitions(words)
+
+    def definitions(self, words: Iterable[Place]) -> None:
+        """Asks where words lead."""
+        asked, before = {word: at(word) for word in words}, len(self.found.leads)
+        self.ask("definitions", "definition", asked, self.take_places(self.found.leads))
+        self.found.empty += len(asked) - len(self.found.leads) + before
 
     def is_keyword(self, word: Place) -> bool:
         """Whether a word is a keyword that is a name."""
@@ -189,11 +220,6 @@ class Asking:
                 )
 
         return take
-
-    def leave_out(self, what: str, tag: Any) -> None:
-        """Notes that there's no answer for a document or a place."""
-        self.notes.leave_out(what, str(tag))
-        self.faulty.add(tag)
 
     def hovers(self, tags: dict[Place, Place]) -> None:
         """Asks what is said of symbols, each at a word that leads to it."""

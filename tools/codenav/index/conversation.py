@@ -144,7 +144,7 @@ class Conversation:
         elif method == DIAGNOSTICS:
             found = [one for one in params.get("diagnostics", ()) if isinstance(one, dict)]
             self.errors[uri] = [
-                FIXES.sub("", str(one.get("message")))
+                " ".join(FIXES.sub("", str(one.get("message"))).split())
                 for one in found
                 if one.get("severity", ERROR) == ERROR
             ]

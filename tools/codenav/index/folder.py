@@ -4,6 +4,7 @@ import os
 import tempfile
 from contextlib import nullcontext
 from dataclasses import dataclass, field
+from itertools import takewhile
 from typing import BinaryIO, Optional, Sequence
 
 from codenav import VERSION
@@ -19,7 +20,7 @@ from codenav.index.documents import Lines, documents_in
 from codenav.index.given import Document, Given, Limits
 from codenav.index.grouped import Grouped
 from codenav.index.kept import Kept, Written, read
-from codenav.index.languages import LANGUAGES, Language, Pass, Way, installed
+from codenav.index.languages import LANGUAGES, Language, Pass, Way, installed, is_header
 from codenav.index.monikers import Monikers, Packages
 from codenav.index.packages import Package, told, usual
 from codenav.index.server import Server
@@ -144,7 +145,7 @@ class Indexing:
         for name, own in self.own.items():
             if own is None:
                 self.mind(
-                    f"no package is known of {name} (--package of `codenav index`), so other projects don't lead here"
+                    f"no package with its version is known of {name} (--package of `codenav index`), so other projects don't lead here"
                 )
         files, words = len(self.uris), len(self.found.words)
         said = f"{files} files, {words} words, {self.found.empty} of them without a definition"
@@ -163,7 +164,10 @@ class Indexing:
 
     def given(self, language: Language, work: str) -> Given:
         """What is given of a language's documents."""
-        folders = [self.folder, *(above(self.folder) if language.building.names else ())]
+        folders = {self.folder, *(above(self.folder) if language.building.names else ())}
+        for one in self.documents[language.name]:
+            own = takewhile(lambda at: at not in folders, above(path_of(one.uri, []) or ""))
+            folders.update(own)
         manifests = [os.path.join(at, name) for at in folders for name in language.manifests]
         if manifests and not any(map(os.path.exists, manifests)):
             self.mind(language.without)
@@ -181,8 +185,8 @@ class Indexing:
         )
 
     def mind_copies(self, symbols: Sequence[Place]) -> None:
-        """Says which files of the folder may be answered from an installed copy."""
-        names = {os.path.basename(uri): uri for uri in self.uris if not uri.endswith(".py")}
+        """Says which headers of the folder may be answered from an installed copy."""
+        names = {os.path.basename(uri): uri for uri in sorted(self.uris) if is_header(uri)}
         for uri in sorted({symbol.uri for symbol in symbols} - self.uris):
             own = names.get(os.path.basename(uri))
             if own:

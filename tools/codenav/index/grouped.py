@@ -3,7 +3,8 @@
 from collections import Counter, defaultdict
 
 from codenav.index.answers import Answers, Place
-from codenav.index.languages import is_header
+from codenav.index.kept import Kept, Known
+from codenav.index.languages import is_c, is_header
 
 
 class Grouped:
@@ -26,6 +27,7 @@ class Grouped:
             for place in places:
                 self.leads.setdefault(place, [symbol])
         self.pair()
+        self.join()
         several = [*self.declared.items(), *self.further.items()]
         apart = {(place, symbol) for symbol, places in several for place in places}
         self.symbols = sorted({symbol for places in self.leads.values() for symbol in places})
@@ -72,6 +74,41 @@ class Grouped:
                     both = sorted((word, other), key=order)
                     self.leads[both[0]] = [both[0]]
                     self.declared[both[0]].append(both[1])
+
+    def join(self) -> None:
+        """Has a word lead to each of several definitions of what C declares once, as two programs in a
+        folder have them, unless its own file has one: each leads to the declaration, which leads to one
+        of them."""
+        owner = {place: symbol for symbol, places in self.declared.items() for place in places}
+        several = defaultdict[Place, list[Place]](list)
+        for word, places in self.leads.items():
+            symbol = owner.get(places[0], word) if len(places) == 1 else word
+            if symbol != word and word.at in self.found.names and is_c(word.uri):
+                several[symbol].append(word)
+        every = {
+            one: sorted((symbol, *others))
+            for symbol, others in several.items()
+            for one in (symbol, *others)
+        }
+        for symbol, others in several.items():
+            for other in others:
+                self.leads[other] = [other]
+                self.declared[other] = self.declared[symbol]
+        for word, places in self.leads.items():
+            if len(places) == 1 and places[0].uri != word.uri:
+                self.leads[word] = every.get(places[0], places)
+
+    def declared_in(self, uris: set[str], before: Kept) -> set[Place]:
+        """The symbols that documents declare, or did: clangd says of a symbol what any document has beside a
+        declaration of it."""
+        places = set[Place]()
+        for known in (before.documents.get(uri, Known("")) for uri in uris):
+            for word, leads in known.leads.items():
+                places.update(leads if word.at in known.names else ())
+        for word, leads in self.found.leads.items():
+            places.update(leads if word.uri in uris and word.at in self.found.names else ())
+        several = self.declared.items()
+        return places | {symbol for symbol, own in several if not places.isdisjoint(own)}
 
     def tags(self) -> dict[Place, Place]:
         """For each symbol the word at which it's asked for: its own where that leads there, or the first

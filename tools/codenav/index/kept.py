@@ -13,13 +13,14 @@ from codenav.index.packages import text_in
 from codenav.texts.decoded import body_of
 from codenav.texts.places import path_of
 
-FORM = f"codenav index {VERSION}, 2"
+FORM = f"codenav index {VERSION}, 3"
 
 
 @dataclass(slots=True)
 class Known:
     """What was answered of a document: the digest of its text, its words and where they lead, the names
-    that it declares, the errors that the server found in it, and the digest of what others hold by.
+    that it declares, the errors that the server found in it, the digest of what others hold by, whether
+    its words were answered, and of which of them it wasn't where they lead.
     """
 
     digest: str
@@ -28,6 +29,8 @@ class Known:
     names: dict[At, Name] = field(default_factory=dict)
     errors: list[str] = field(default_factory=list)
     surface: str = ""
+    is_whole: bool = True
+    missing: list[Place] = field(default_factory=list)
 
 
 @dataclass(slots=True)
@@ -136,7 +139,9 @@ class Written:
                     for word, places in one.leads.items()
                 ]
                 names = [[*at[1:], *name] for at, name in one.names.items()]
-                self.line(kind, uri, one.digest, words, leads, names, one.errors, one.surface)
+                missing = [word[1:] for word in one.missing]
+                more = one.errors, one.surface, one.is_whole, missing
+                self.line(kind, uri, one.digest, words, leads, names, *more)
         for symbol, asked in kept.symbols.items():
             places = [self.place(to) for to in asked.implementations]
             own, word = self.place(symbol), self.place(asked.word)
@@ -192,7 +197,7 @@ def lines_of(file: BinaryIO) -> Iterator[tuple[str, Kept]]:
             body = next(file, b"").removesuffix(b"\n")
             kept.said[uri] = Said(digest, [uris[number] for number in read_for], names, body)
         elif kind != "form":
-            uri, digest, words, leads, names, errors, surface = parts
+            uri, digest, words, leads, names, errors, surface, is_whole, missing = parts
             documents = kept.documents if kind == "document" else kept.outside
             documents[uri] = Known(
                 digest,
@@ -204,6 +209,8 @@ def lines_of(file: BinaryIO) -> Iterator[tuple[str, Kept]]:
                 },
                 errors,
                 surface,
+                is_whole,
+                [Place(uri, *word) for word in missing],
             )
     if language:
         yield language, kept

@@ -4,6 +4,7 @@ or a pass of our own over all its files."""
 import os
 import shlex
 import shutil
+from operator import attrgetter
 from typing import Any, Callable, Mapping, NamedTuple, Optional, Sequence, Union
 
 from codenav.faults import BadCall
@@ -22,7 +23,7 @@ from codenav.index.packages import (
     pip_package,
 )
 from codenav.index.python import line as python
-from codenav.index.surfaces import go_surface
+from codenav.index.surfaces import c_surface, go_surface
 from codenav.index.typescript import checker
 
 DIAGNOSTICS, HIGHLIGHTS = "textDocument/publishDiagnostics", "$ccls/publishSemanticHighlight"
@@ -44,7 +45,7 @@ class ServerKind(NamedTuple):
     its documents. It's ready when it has sent its sign, of each
     open document or of itself, or where it has none when it has been silent for so many seconds
     with no progress under way. It's asked of some keywords too, which are names. It may take a
-    backslash in a path for a slash."""
+    backslash in a path for a slash, and read by itself the files that aren't open."""
 
     line: str
     package: str = ""
@@ -53,6 +54,7 @@ class ServerKind(NamedTuple):
     silence: float = 2
     keywords: frozenset[str] = frozenset()
     is_slashed: bool = False
+    reads_folder: bool = False
 
     def lacks(self) -> str:
         """What of it isn't installed; empty where all is."""
@@ -71,6 +73,7 @@ class Pass(NamedTuple):
 
 
 Way = Union[ServerKind, Pass]
+text_of: Callable[[Document], str] = attrgetter("text")
 
 
 class Language(NamedTuple):
@@ -93,7 +96,7 @@ class Language(NamedTuple):
     depends: Depends = by_leads
     is_structural: bool = False
     building: Building = Building()
-    surface: Callable[[str], str] = str
+    surface: Callable[[Document], str] = text_of
 
 
 LANGUAGES = (
@@ -122,11 +125,12 @@ LANGUAGES = (
             (("XDG_CONFIG_HOME", "~/.config", "clangd/config.yaml"),),
             ("CPATH", "C_INCLUDE_PATH", "CPLUS_INCLUDE_PATH", "CLANGD_"),
         ),
+        surface=lambda one: c_surface(one.text) if one.uri.endswith(".c") else one.text,
     ),
     Language(
         "Go",
         {".go": "go"},
-        (ServerKind("gopls", "gopls and golang-go", settings.gopls),),
+        (ServerKind("gopls", "gopls and golang-go", settings.gopls, reads_folder=True),),
         ("go.mod", "go.work"),
         "no go.mod: the server takes each folder for a package without a name",
         "scip-go",
@@ -139,7 +143,7 @@ LANGUAGES = (
             variables=("GOPACKAGESDRIVER", "PKG_CONFIG"),
             lines=(("go", "env", *GO_VARIABLES.split()),),
         ),
-        surface=go_surface,
+        surface=lambda one: go_surface(one.text),
     ),
     Language(
         "Python",
@@ -207,6 +211,11 @@ LANGUAGES = (
 def is_header(path: str) -> bool:
     """Whether a file is a header of C or C++, some of whose have no suffix."""
     return os.path.splitext(path)[1] in HEADERS
+
+
+def is_c(path: str) -> bool:
+    """Whether a file is of C alone, by its suffix."""
+    return os.path.splitext(path)[1] in (".c", ".h")
 
 
 def language_of(path: str) -> Optional[tuple[Language, str]]:

@@ -4,12 +4,11 @@ is kept."""
 import os
 import shlex
 import shutil
-from collections import defaultdict
-from typing import Iterable
+from typing import Any, Iterable, Mapping
 
 from codenav.faults import BadCall
-from codenav.index.again import declared, includes, words_of
-from codenav.index.answers import Answers, At, Name, Place
+from codenav.index.again import declared, declaring, includes, words_of
+from codenav.index.answers import Answers, Place
 from codenav.index.asked import Asking
 from codenav.index.documents import Lines
 from codenav.index.given import Given
@@ -18,14 +17,12 @@ from codenav.index.indexers import tail_of
 from codenav.index.kept import Asked, Kept, Known, digest_of, key_of, outside_of, stamp_of
 from codenav.index.languages import Language, ServerKind, language_of
 from codenav.index.monikers import Packages
-from codenav.index.surfaces import moved_names, moved_place
+from codenav.index.shifted import shift, shifted_in
 from codenav.index.team import Team
 from codenav.texts.places import path_of
 
 
 BACKSLASH = "%5C"
-MEMBERS = {7, 8, 22}
-"""Kinds of symbols that are known where their type is: property, field, member of an enum."""
 
 
 def told_apart(given: Given) -> tuple[Given, set[str]]:
@@ -74,20 +71,28 @@ class Server:
         self.changed = {
             uri for uri, digest in digests.items() if known.get(uri, Known("")).digest != digest
         }
+        held = [known[uri] for uri in digests.keys() - self.changed]
+        self.missing = {word for one in held for word in one.missing}
+        self.faulty = {uri for uri in digests.keys() - self.changed if not known[uri].is_whole}
         self.moved = self.changed | (known.keys() - digests.keys())
         for uri, one in self.before.outside.items():
             if one.digest != stamp_of(path_of(uri, [])):
                 self.moved.add(uri)
         self.again, self.differs = set[str](), False
+        self.told_of = set[Place]()
+        texts = given.documents if self.changed else ()
+        included = set[str]().union(*includes(texts).values())
         for uri, digest in digests.items():
             own = known[uri].surface if uri not in self.changed else ""
-            own = own or digest_of(language.surface(self.documents[uri].text))
+            if not own and os.path.basename(path_of(uri, []) or "") in included:
+                own = digest
+            own = own or digest_of(language.surface(self.documents[uri]))
             self.after.documents[uri] = Known(digest, surface=own)
 
     def answers(self) -> Answers:
         """All that it answers. Raises BadCall, with what it said itself, where it can't be asked."""
         found = Answers()
-        if not self.moved:
+        if not self.moved and not self.faulty and not self.missing:
             self.before.add_to(found, self.documents)
             for one in self.before.outside.values():
                 found.names |= one.names
@@ -96,7 +101,7 @@ class Server:
                 self.given.shows.begin(f"kept of {self.kind.line}", len(self.documents), "")
                 self.given.shows.end(f"{len(self.documents)} files, none changed")
                 self.keep_symbols(found, tags)
-                self.keep(found, set())
+                self.keep(found, {})
                 return found
         said = os.path.join(self.given.work, "server.log")
         given = self.given
@@ -135,6 +140,9 @@ class Server:
             self.again = set(self.documents)
         asking.documents(sorted(self.again))
         self.before.add_to(found, self.documents.keys() - self.again)
+        missing = sorted(word for word in self.missing if word.uri not in self.again)
+        found.empty -= len(missing)
+        asking.definitions(missing)
         self.ask_outside(asking)
         self.ask_symbols(talk, asking)
         if talk.restarts:
@@ -142,59 +150,31 @@ class Server:
             self.given.mind(text)
         for uri in self.again:
             self.after.documents[uri].errors = talk.first.errors.get(uri, [])[:1]
-        self.keep(found, {getattr(tag, "uri", tag) for tag in asking.faulty})
+        self.keep(found, asking.faulty)
         return found
 
     def widen(self, talk: Team, asking: Asking) -> None:
         """Finds which documents are asked again, and opens these and those that may define what is
         used there."""
         asking.outlines("names of what changed", sorted(self.changed))
-        shifted = self.shifted(asking)
-        moved = self.moved - shifted.keys()
-        names, self.differs = declared(asking.found.names, self.before, moved)
-        texts = {uri: words_of(one.text) for uri, one in self.documents.items()}
+        shifted = shifted_in(self.changed, self.before, self.after, asking.found.names)
+        moved, before = self.moved - shifted.keys(), self.before.documents
         again = self.language.depends(self.before, self.given.documents, moved)
-        again |= (
-            self.shift(shifted)
-            | self.changed
-            | {uri for uri, words in texts.items() if words & names}
-        )
-        self.again = again & self.documents.keys()
-        used = {word for uri in self.again for word in texts[uri]}
-        needed = {
-            at[0]
-            for known in self.before.documents.values()
-            for at, name in known.names.items()
-            if name.kind not in MEMBERS and not used.isdisjoint(words_of(name.name))
-        }
-        self.open(talk, self.again | (needed & self.documents.keys()))
-
-    def shifted(self, asking: Asking) -> dict[str, dict[At, At]]:
-        """Of documents that changed where others don't hold by it, where their names are now."""
-        own = defaultdict[str, dict[At, Name]](dict)
-        for at, name in asking.found.names.items():
-            own[at[0]][at] = name
-        found, known = dict[str, dict[At, At]](), self.before.documents
-        for uri in self.changed & known.keys():
-            if known[uri].surface == self.after.documents[uri].surface:
-                moved = moved_names(known[uri].names, own[uri])
-                if moved is not None:
-                    found[uri] = moved
-        return found
-
-    def shift(self, shifted: dict[str, dict[At, At]]) -> set[str]:
-        """Has what is known lead to where names are now; the documents for which that isn't known."""
-        lost = set[str]()
-        for uri, known in self.before.documents.items():
-            for word, places in known.leads.items():
-                if uri not in shifted and any(place.uri in shifted for place in places):
-                    now = [
-                        moved_place(one, shifted[one.uri]) if one.uri in shifted else one
-                        for one in places
-                    ]
-                    known.leads[word] = sorted(filter(None, now))
-                    lost |= {uri} if None in now else set()
-        return lost
+        again = (again | shift(self.before, shifted) | self.faulty) & self.documents.keys()
+        again -= self.changed
+        self.open(talk, again)
+        asking.outlines("names of what depends on that", sorted(again))
+        names, self.differs = declared(asking.found.names, self.before, moved)
+        names |= declared(asking.found.names, self.before, again - self.faulty)[0]
+        texts = {uri: words_of(one.text) for uri, one in self.documents.items()}
+        again |= self.changed | {uri for uri, words in texts.items() if words & names}
+        self.again, used = again, {word for uri in again for word in texts[uri]}
+        used.update(map(self.lines.text, self.missing))
+        for uri in self.moved & before.keys():
+            used |= {word for name in before[uri].names.values() for word in words_of(name.name)}
+        needed = set() if self.kind.reads_folder else declaring(self.before, used)
+        needed |= {word.uri for word in self.missing}
+        self.open(talk, again | (needed & self.documents.keys()))
 
     def ask_outside(self, asking: Asking) -> None:
         """Asks for the names in documents of other packages that are on the server."""
@@ -219,7 +199,8 @@ class Server:
         that isn't asked again."""
         before = self.before.symbols.get(symbol)
         again = self.again | self.moved
-        return before is not None and before.word == word and not again & {word.uri, symbol.uri}
+        is_same = before is not None and before.word == word and symbol not in self.told_of
+        return is_same and not again & {word.uri, symbol.uri}
 
     def is_kept_implemented(self, symbol: Place, word: Place) -> bool:
         """Whether what implements a symbol is known still."""
@@ -231,7 +212,8 @@ class Server:
 
     def ask_symbols(self, talk: Team, asking: Asking) -> None:
         """Asks what isn't kept of symbols. Nothing of C implements anything."""
-        tags = Grouped(asking.found).tags()
+        grouped = Grouped(asking.found)
+        tags, self.told_of = grouped.tags(), grouped.declared_in(self.moved, self.before)
         is_plain = self.kind in self.language.ways and self.identifiers == {"c"}
         new = {symbol: word for symbol, word in tags.items() if not self.is_kept(symbol, word)}
         able = {
@@ -247,7 +229,7 @@ class Server:
         self.open(talk, {word.uri for word in (*new.values(), *able.values())})
         asking.hovers(new)
         asking.implementations(able)
-        for symbol in tags.keys() - asking.faulty:
+        for symbol in tags.keys() - asking.faulty["hover"] - asking.faulty["implementation"]:
             self.after.symbols[symbol] = Asked(tags[symbol])
 
     def keep_symbols(self, found: Answers, tags: dict[Place, Place]) -> None:
@@ -260,14 +242,14 @@ class Server:
             if before.implementations:
                 found.implementations[symbol] = before.implementations
 
-    def keep(self, found: Answers, faulty: set[str]) -> None:
-        """Keeps what is known now, but for documents of which something wasn't answered."""
+    def keep(self, found: Answers, faulty: Mapping[str, set[Any]]) -> None:
+        """Keeps what is known now, and what wasn't answered of what was asked."""
         for uri, one in self.after.documents.items():
             if uri not in self.again:
                 one.errors = self.before.documents[uri].errors
             for text in one.errors:
                 where = f"{path_of(uri, []) or uri}: {text}"
-                what = "answers of a file that has errors for the server"
+                what = "what errors in a file hide from the server"
                 self.given.notes.leave_out(what, where)
         for word in found.words.values():
             self.after.documents[word.uri].words.append(word)
@@ -278,7 +260,11 @@ class Server:
         for at, name in found.names.items():
             if at[0] in self.after.documents:
                 self.after.documents[at[0]].names[at] = name
-        for uri in faulty:
+        for word in sorted(faulty.get("definition", ())):
+            self.after.documents[word.uri].missing.append(word)
+        for uri in faulty.get("semanticTokens/full", ()):
+            self.after.documents[uri].is_whole = False
+        for uri in faulty.get("documentSymbol", ()):
             self.after.documents.pop(uri, None)
             if uri in self.after.outside:
                 self.after.outside[uri].digest = ""

@@ -1,14 +1,21 @@
-"""What of a text the answers of other files hold by, and how places in it move with the rest."""
+"""What of a text the answers of other files hold by."""
 
 import re
-from typing import Mapping, Optional
-
-from codenav.index.answers import At, Name, Place
 
 GO = re.compile(
     r"//[^\n]*|/\*.*?\*/|`[^`]*`|\"(?:\\.|[^\"\\\n])*\"|'(?:\\.|[^'\\\n])*'|\(type\)|\w+|[^\w\s]|\n",
     re.DOTALL,
 )
+C = re.compile(
+    r"^[ \t]*#(?:\\\n|[^\n])*|//(?:\\\n|[^\n])*|/\*.*?\*/|\"(?:\\.|[^\"\\\n])*\"|'(?:\\.|[^'\\\n])*'|\w+|[^\w\s]",
+    re.DOTALL | re.MULTILINE,
+)
+SHARED = re.compile(
+    r"^[ \t]*#|\bextern\b|[;{}]\s*(?!(?:return|else|do|goto)\b)[^\W\d]\w*[\s*]+(?:\w+[\s*]+)*\w+\s*\([^(){};=]*\)\s*;",
+    re.MULTILINE,
+)
+"""What in a body of C may be for other files: a directive, or a declaration of a function or of what
+is defined elsewhere."""
 OPEN, CLOSED, ENDS, QUOTES = set("({["), set(")}]"), {"\n", ";"}, set("`\"'")
 
 
@@ -44,25 +51,26 @@ def go_surface(text: str) -> str:
     return "".join([*parts, text[kept:]]) if depth == 0 else text
 
 
-def moved_names(before: Mapping[At, Name], after: Mapping[At, Name]) -> Optional[dict[At, At]]:
-    """Where names are now that a document declares; None where they aren't the same ones."""
-    own, other = sorted(before.items()), sorted(after.items())
-    plain = ([name._replace(size=(0, 0)) for _, name in rows] for rows in (own, other))
-    if next(plain) != next(plain):
-        return None
-    return {at: to for (at, _), (to, _) in zip(own, other)}
-
-
-def moved_place(place: Place, moved: Mapping[At, At]) -> Optional[Place]:
-    """Where a place of a document is now whose names moved; None where that isn't known. What begins
-    where the document does is the whole of it."""
-    to = moved.get(place.at)
-    if to is None and (place.line, place.start) == (0, 0):
-        return place
-    if to is None:
-        first = next(iter(moved.items()), None)
-        is_above = first is not None and first[0] == first[1] and place.end_line < first[0][1]
-        return place if is_above else None
-    if place.line != place.end_line:
-        return None
-    return Place(place.uri, to[1], to[2], to[1], to[2] + place.end - place.start)
+def c_surface(text: str) -> str:
+    """A text of C without the bodies of functions, but for those with what may be for other files; all of
+    it where it isn't whole."""
+    parts, kept, depth, start, last = list[str](), 0, 0, -1, ""
+    for found in C.finditer(text):
+        token = found[0]
+        if token.startswith(("//", "/*")):
+            continue
+        if token in OPEN:
+            if depth == 0:
+                start = found.start() if (last, token) == (")", "{") else -1
+            depth += 1
+        elif token in CLOSED:
+            depth -= 1
+            if depth < 0:
+                return text
+            if depth == 0 and start >= 0 and not SHARED.search(text, start, found.end()):
+                parts += [text[kept:start], "{}"]
+                kept = found.end()
+        elif token in QUOTES:
+            return text
+        last = token
+    return "".join([*parts, text[kept:]]) if depth == 0 else text
