@@ -3,12 +3,15 @@
 import os
 import shutil
 import unittest
+from unittest import mock
 
+from codenav.faults import BadCall
 from codenav.index.documents import documents_in
 from codenav.index.tags_file import files_of, tagged
 from codenav.outcome import Notes
 from codenav.texts.places import uri_of
 from tests.repository import InRepository
+from tests.test_publish import script
 
 SOURCE = "int two(void) { return 2; }\n"
 
@@ -55,6 +58,20 @@ class Tagging(InRepository):
         self.write("a.c", SOURCE)
         self.commit()
         self.assertEqual(self.lines(), [("two", "a.c")])
+
+    def test_fault(self) -> None:
+        """What it says last is told, and the files that it leaves are in the folder of the tags."""
+        self.write("a.c", SOURCE)
+        self.commit()
+        programs, work = (os.path.join(self.home, name) for name in ("bin", "made"))
+        for name in programs, work:
+            os.mkdir(name)
+        said = "echo one >&2; echo 'ctags: no room' >&2; touch $TMPDIR/tags.left; exit 1"
+        script(os.path.join(programs, "ctags"), said)
+        with mock.patch.dict(os.environ, {"PATH": f"{programs}:{os.environ['PATH']}"}):
+            with self.assertRaisesRegex(BadCall, f"status 1 in {self.top}: ctags: no room$"):
+                tagged(self.top, files_of(self.top), os.path.join(work, "tags"))
+        self.assertIn("tags.left", os.listdir(work))
 
     def test_submodules(self) -> None:
         """Files of submodules, over any number of them, are the checkout's: tagged, and indexed also where

@@ -80,15 +80,18 @@ def fault_of(line: bytes, number: int, written: int) -> Optional[str]:
 
 
 @contextmanager
-def ctags(folder: str, names: IO[bytes]) -> Iterator["subprocess.Popen[bytes]"]:
-    """What prints the tags of the files that a file names; at a fault it's ended."""
+def ctags(
+    folder: str, names: IO[bytes], said: IO[bytes], work: str
+) -> Iterator["subprocess.Popen[bytes]"]:
+    """What prints the tags of the files that a file names; at a fault it's ended. What it says goes into
+    another file, and its own ones, which it may leave, are in a folder."""
     with subprocess.Popen(
         ["ctags", "--options=NONE", "-f", "-", "-L", "-", "--fields=+n", "--sort=yes"],
         cwd=folder,
         stdin=names,
         stdout=subprocess.PIPE,
-        stderr=subprocess.DEVNULL,
-        env={**os.environ, "LC_ALL": "C"},
+        stderr=said,
+        env={**os.environ, "LC_ALL": "C", "TMPDIR": work},
         preexec_fn=end_with_parent,
     ) as run:
         try:
@@ -109,14 +112,15 @@ def tagged(
     count.
     """
     count, written, left_out = 0, 0, Counter[str]()
-    with tempfile.TemporaryFile() as names, open(path, "wb") as out:
+    said, work = os.memfd_create("ctags"), os.path.dirname(os.path.abspath(path))
+    with open(said, "w+b") as says, tempfile.TemporaryFile() as names, open(path, "wb") as out:
         for name in files:
             if b"\n" in name:
                 left_out["T03"] += 1
             else:
                 names.write(b"./" + name + b"\n")
         names.seek(0)
-        with ctags(folder, names) as run:
+        with ctags(folder, names, says, work) as run:
             for line in run.stdout or ():
                 line = line.removesuffix(b"\n").replace(b"\t./", b"\t", 1)
                 code = fault_of(line, *((0, 0) if is_cut else (count + 2, written + RECORD_BYTES)))
@@ -125,6 +129,8 @@ def tagged(
                     continue
                 written += out.write(line + b"\n")
                 count += 1
-    if run.returncode != 0:
-        raise BadCall(f"ctags ended with status {run.returncode} in {folder}")
+        if run.returncode != 0:
+            says.seek(0)
+            last = says.read().decode(errors="replace").strip().rpartition("\n")[2]
+            raise BadCall(f"ctags ended with status {run.returncode} in {folder}: {last}")
     return count, left_out
