@@ -155,5 +155,35 @@ class Apart(unittest.TestCase):
                 self.assertEqual(notes.all() == (), is_whole)
 
 
+class InOrder(unittest.TestCase):
+    """A dump is the same in whatever order a server answers."""
+
+    def dump(self, found: Answers, chance: random.Random) -> bytes:
+        """The dump of answers that came by chance."""
+        for name in "words", "leads", "hovers", "implementations":
+            rows = [*getattr(found, name).items()]
+            chance.shuffle(rows)
+            setattr(found, name, dict(rows))
+        out, notes = io.BytesIO(), Notes()
+        monikers = Monikers(Packages("/own", {}, []), found, Lines([]), notes)
+        writer = DumpWriter(out, Grouped(found), monikers, notes)
+        writer.write("file:///own", ["file:///own/a.go", "file:///own/b.go"], "1")
+        return out.getvalue()
+
+    def test_by_chance(self) -> None:
+        for seed in range(100):
+            chance = random.Random(seed)
+            own = [Place(f"file:///own/{file}.go", at, 0, at, 3) for file in "ab" for at in range(5)]
+            other = [Place(f"file:///{name}.go", at, 0, at, 3) for name in "xyz" for at in (1, 2)]
+            found = Answers(words={word.at: word for word in own})
+            for word in own:
+                found.leads[word] = sorted(chance.sample(own + other, chance.randrange(1, 3)))
+            for symbol in {to for places in found.leads.values() for to in places}:
+                found.hovers[symbol] = f"of {symbol.line % 2}"
+                found.implementations[symbol] = sorted(chance.sample(own + other, 2))
+            with self.subTest(seed=seed):
+                self.assertEqual(self.dump(found, chance), self.dump(found, chance))
+
+
 if __name__ == "__main__":
     unittest.main()

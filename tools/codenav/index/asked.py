@@ -143,6 +143,8 @@ class Asking:
         self, what: str, method: str, asked: dict[Any, Any], take: Callable[[Any, Any], None]
     ) -> None:
         """Asks something of each tag with its parameters; what is answered is taken."""
+        if not asked:
+            return
         self.shows.begin(what, len(asked), "")
         count = empty = 0
         questions = (

@@ -140,9 +140,8 @@ class Server:
             self.again = set(self.documents)
         asking.documents(sorted(self.again))
         self.before.add_to(found, self.documents.keys() - self.again)
-        missing = sorted(word for word in self.missing if word.uri not in self.again)
-        found.empty -= len(missing)
-        asking.definitions(missing)
+        found.empty -= len(self.missing)
+        asking.definitions(sorted(self.missing))
         self.ask_outside(asking)
         self.ask_symbols(talk, asking)
         if talk.restarts:
@@ -160,14 +159,16 @@ class Server:
         shifted = shifted_in(self.changed, self.before, self.after, asking.found.names)
         moved, before = self.moved - shifted.keys(), self.before.documents
         again = self.language.depends(self.before, self.given.documents, moved)
-        again = (again | shift(self.before, shifted) | self.faulty) & self.documents.keys()
-        again -= self.changed
+        again = (again | self.faulty) & self.documents.keys() - self.changed
+        self.missing |= shift(self.before, shifted)
         self.open(talk, again)
         asking.outlines("names of what depends on that", sorted(again))
         names, self.differs = declared(asking.found.names, self.before, moved)
         names |= declared(asking.found.names, self.before, again - self.faulty)[0]
         texts = {uri: words_of(one.text) for uri, one in self.documents.items()}
         again |= self.changed | {uri for uri, words in texts.items() if words & names}
+        kept = self.documents.keys() - again
+        self.missing = {word for word in self.missing if word.uri in kept}
         self.again, used = again, {word for uri in again for word in texts[uri]}
         used.update(map(self.lines.text, self.missing))
         for uri in self.moved & before.keys():

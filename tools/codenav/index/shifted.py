@@ -50,16 +50,19 @@ def shifted_in(
     return found
 
 
-def shift(before: Kept, shifted: Moved) -> set[str]:
-    """Has what is known lead to where names are now; the documents for which that isn't known."""
-    lost = set[str]()
+def shift(before: Kept, shifted: Moved) -> set[Place]:
+    """Has what is known lead to where names are now; the words for which that isn't known, which lead
+    nowhere."""
+    lost = set[Place]()
     for uri, known in before.documents.items():
-        for word, places in known.leads.items():
-            if uri not in shifted and any(place.uri in shifted for place in places):
+        for word, places in [] if uri in shifted else [*known.leads.items()]:
+            if any(place.uri in shifted for place in places):
                 now = [
                     moved_place(one, shifted[one.uri]) if one.uri in shifted else one
                     for one in places
                 ]
                 known.leads[word] = sorted(filter(None, now))
-                lost |= {uri} if None in now else set()
+                if None in now:
+                    del known.leads[word]
+                    lost.add(word)
     return lost

@@ -48,7 +48,7 @@ class DumpWriter(Writer):
         grouped = self.grouped
         implemented = [
             place
-            for symbol in grouped.found.implementations
+            for symbol in sorted(grouped.found.implementations)
             for place in grouped.implementing(symbol)
         ]
         several = [*grouped.declared.values(), *grouped.further.values()]
