@@ -1,11 +1,10 @@
 //! `codenav serve`: the replies to the requests of connections, one request each, one connection
 //! after the other. A stream is served in the crate `http_edge`. `specs/Serve`.
-ghost use Rattle.std.specs.Prelude.{◌≡◌, ◌+◌, ◌^◌, ◌<◌, true, List, Err, IfErr, length};
+ghost use Rattle.std.specs.Prelude.{◌≡◌, ◌+◌, ◌^◌, ◌<◌, true, List, IfErr, length};
 ghost use Rattle.machine.specs.State.{State};
-ghost use Rattle.streams.specs.Streams.{CanCount, IsCountable};
-ghost use Rattle.http_edge.specs.Serving.{CountsRead, CountsWrite, Serves, session, after_a_stop_of_answers};
-ghost use Rattle.http_edge.specs.declared.serve.ServeFault.TheVariants as serve_fault;
-ghost use Rattle.calls.specs.Serve.{ConnectionValue, CountsAccept, CountsServed, ServesConnection, ServesEach, most_requests};
+ghost use Rattle.streams.specs.Streams.{IsCountable};
+ghost use Rattle.http_edge.specs.Serving.{after_a_stop_of_answers};
+ghost use Rattle.calls.specs.Serve.{ConnectionValue, CountsAccept, CountsServed, ServesConnection, ServesEach};
 
 use crate::limits::CONNECTION_REQUESTS;
 use crate::timed::{Limits, Timed};
@@ -16,7 +15,7 @@ use std::alloc::{AllocError, Global};
 use std::io::{Read, Write};
 use std::net::{OpenListener, OpenStream};
 use std::time::{Clock, Instant};
-use streams::{Counted, OUT_OF_MEMORY, Sink, Source};
+use streams::{Counted, OUT_OF_MEMORY};
 use tables::{MemoryDisk, Tables};
 use thiserror::Error;
 
@@ -64,34 +63,6 @@ impl<'a, L: OpenListener> CountedListener<'a, L> {
     }
 }
 
-/// Answers the one request (HTTP/1.1, RFC 9112) of a connection, and says how many replies were
-/// written: none where its client sends nothing. Refuses where memory for its buffers was refused,
-/// and then nothing was read or written and the desk is as before; where the reader failed; and
-/// where the writer failed or took no byte.
-pub fn serve_request<D: Desk, R: Source, W: Sink>(
-    alloc: Global,
-    desk: &mut D,
-    r: &mut R,
-    w: &mut W,
-) -> Result<u32, ServeFault>
-    requires reads { IsCountable (R.failed r.old) }
-    requires writes { CanCount (W.output w.old) }
-    ensures reliable { D.is_reliable desk.new → D.is_reliable desk.old }
-    ensures served { (c : ConnectionValue) × (D.is_reliable desk.new → (m : State) → D.stands desk.old m → (n : State)
-        × Serves D.store_may_refuse most_requests (session (R.left r.old) (R.left r.new) (W.output w.old) (W.output w.new) c.messages c.answers) m n result
-        × D.stands desk.new n
-        × ((states : List State) → D.may_leave desk.old states → D.may_leave desk.new (after_a_stop_of_answers m states c.messages c.answers))) }
-    ensures connection { (c : ConnectionValue)
-        × (D.is_reliable desk.new → (m : State) → D.stands desk.old m → (n : State) × ServesConnection D.store_may_refuse m c n
-        × D.stands desk.new n
-        × ((states : List State) → D.may_leave desk.old states → D.may_leave desk.new (after_a_stop_of_answers m states c.messages c.answers))) }
-    ensures memory { result ≡ Err serve_fault.Memory → (desk.new ≡ desk.old) × (r.new ≡ r.old) × (w.new ≡ w.old) }
-    ensures read { CountsRead (R.failed r.old) (R.failed r.new) result }
-    ensures write { CountsWrite (W.output w.old) result (W.output w.new) }
-{
-    serve_stream(alloc, desk, r, w, CONNECTION_REQUESTS)
-}
-
 /// Both ends of a connection that was just accepted. None where one isn't given or the time can't
 /// be read.
 fn ends<'a, S: OpenStream + Drop, C: Clock>(
@@ -121,7 +92,7 @@ fn serve_ends<D: Desk, S: OpenStream + Read + Write + Drop, C: Clock>(
 {
     let mut r = Counted::new(reader);
     let mut w = Counted::new(writer);
-    match serve_request(alloc, desk, &mut r, &mut w) {
+    match serve_stream(alloc, desk, &mut r, &mut w, CONNECTION_REQUESTS) {
         Ok(_) => {
             r.into_inner().finish();
             Ok(())

@@ -263,8 +263,8 @@ fn add_result<'a>(
     Ok(())
 }
 
-/// The place of a role in the order of roles.
-fn role_index(role: Role) -> u32
+/// The place of a role in the order of roles, from 0: the number that rows have for it.
+pub fn role_index(role: Role) -> u32
     ensures { result ≡ role_index role }
 {
     match role {

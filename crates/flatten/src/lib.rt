@@ -25,6 +25,8 @@ mod rows;
 pub use closure::reach;
 pub use fault::FlattenFault;
 pub use flattening::{flatten, flatten_within};
+pub use items::role_index;
 pub use keys::{key_law, key_text};
+pub use marks::kind_index;
 pub use results::Results;
 pub use rows::{BearerRow, DocRow, HoverRow, ItemRow, MarkRow, RangeRow, Rows};

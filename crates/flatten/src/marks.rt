@@ -161,8 +161,8 @@ fn add_range<'a>(
     }
 }
 
-/// The place of a kind in the order of kinds.
-fn kind_index(kind: MonikerKind) -> u32
+/// The place of a kind in the order of kinds, from 0: the number that rows have for it.
+pub fn kind_index(kind: MonikerKind) -> u32
     ensures { result ≡ kind_index kind }
 {
     match kind {

@@ -2,14 +2,14 @@
 //! or not of its form.
 ghost use Rattle.std.specs.Prelude.{◌≡◌, ◌<◌, IfOk, IfSome, option_map, string_bytes};
 ghost use Rattle.positions.specs.Position.{number_limit};
-ghost use Rattle.machine.specs.Names.{is_without_nul, where_so, number_in};
+ghost use Rattle.machine.specs.Names.{where_so, number_in};
 ghost use Rattle.http_edge.specs.Parameters.{parameter};
 ghost use Rattle.http_edge.specs.Requests.{declaration_in, is_tag_text, key_in, position_in, profile_in, required, searched_in, uri_in, yes_or_no};
 ghost use Rattle.http_edge.specs.Steps.Requests.{searched_value};
 
 use crate::parameters::{ParameterValue, Parameters};
 use lsif::Profile;
-use machine::{DocUri, Key, ProjectName, read_number};
+use machine::{DocUri, Key, ProjectName, is_without_nul, read_number};
 use positions::Position;
 use std::alloc::{AllocError, Global};
 
@@ -128,12 +128,6 @@ pub(crate) fn read_searched(
         },
         ParameterValue::Several => Ok(None),
     }
-}
-
-fn is_without_nul(text: &str) -> bool
-    ensures { result ≡ is_without_nul text.now }
-{
-    text.as_bytes().iter().all(|byte| *byte != 0)
 }
 
 /// A name of tags, or the beginning of one: a text that isn't empty and has no U+0000.

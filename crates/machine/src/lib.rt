@@ -29,7 +29,7 @@ pub use code::{Code, STORE_REFUSED};
 pub use desk::Desk;
 pub use found::{FoundPlace, FoundProject, FoundTag};
 pub use laws::{answer_law, judgement_law, reply_law, retry_law};
-pub use names::{DocUri, Key, ProjectName, read_number};
+pub use names::{DocUri, Key, ProjectName, is_without_nul, read_number};
 pub use reply::Reply;
 pub use request::{Command, Query, Request};
 pub use running::{RunFault, run};

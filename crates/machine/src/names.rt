@@ -130,7 +130,8 @@ impl Key {
     }
 }
 
-fn is_without_nul(text: &str) -> bool
+/// Whether the text has no U+0000.
+pub fn is_without_nul(text: &str) -> bool
     ensures { result ≡ is_without_nul text.now }
 {
     text.as_bytes().iter().all(|byte| *byte != 0)

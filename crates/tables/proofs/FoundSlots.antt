@@ -15,7 +15,7 @@ use Rattle.sqlite_rules.proofs.PlaceLemmas.{tied_same}
 use Rattle.tables.specs.Schema.{schema_two, slot}
 use Rattle.tables.specs.Contents.{Contents, Replies, Keeps, slot_row}
 use Rattle.tables.specs.declared.parts.TheConstants.{SELECT_SLOT}
-use Rattle.tables.specs.declared.bearers.TheConstants.{SELECT_PROJECT}
+use Rattle.tables.specs.declared.parts.TheConstants.{SELECT_PROJECT}
 use Rattle.tables.specs.Steps.Selected.{AreTyped, IsFirstRead, ShowsOne, equals}
 use Rattle.tables.specs.Steps.Slots.{IsSlotOf}
 use Rattle.tables.specs.Parts.{part_number}

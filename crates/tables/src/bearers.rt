@@ -1,27 +1,22 @@
 //! The bearers of a moniker key in all projects, as they are selected by one join of `bearer`,
 //! `slot` and `more`, over the index of keys. `FindsBearers` in `machine/specs/Selections`.
-ghost use Rattle.std.specs.Prelude.{◌≡◌, ◌∷◌, List, ℕ, map, string_bytes, IfOk, OnOk};
+ghost use Rattle.std.specs.Prelude.{◌∷◌, map, string_bytes, IfOk};
 ghost use Rattle.sqlite_value.specs.declared.value.Value.TheVariants.{Text};
 ghost use Rattle.sqlite.specs.State.{HasCleanDisk};
 ghost use Rattle.sqlite.specs.Held.{state};
 ghost use Rattle.lsif.specs.RequestKinds.{kinds};
 ghost use Rattle.flatten.specs.Flat.{kind_index};
 ghost use Rattle.flatten.specs.Rows.{results_value};
-ghost use Rattle.tables.specs.Schema.{schema_two};
 ghost use Rattle.tables.specs.Columns.{kind_columns, number};
-ghost use Rattle.tables.specs.Contents.{Contents, HasSlot, Replies, Keeps};
 ghost use Rattle.machine.specs.State.{State};
 ghost use Rattle.tables.specs.Stands.{OnlySelects, Rests};
 ghost use Rattle.machine.specs.Selections.{FindsBearers, bearer_found};
-ghost use Rattle.tables.specs.Steps.Slots.{IsNamed};
 ghost use Rattle.tables.specs.Steps.Clauses.{OfState, OnlyReads};
-ghost use Rattle.tables.specs.declared.slots.Part.{Part};
 
 use crate::columns::{column, kind_of};
 use crate::fault::{Refusal, TablesFault};
 use crate::kinds::{naming_more, read_all};
-use crate::parts::ProjectSlot;
-use crate::selection::{Listed, select_all, select_first};
+use crate::selection::{Listed, select_all};
 use crate::tables::Tables;
 use machine::FoundBearer;
 use sqlite::{Alter, Connection, Row, params};
@@ -40,42 +35,6 @@ impl Listed for FoundBearer {
             project: column(row, 0)?,
         })
     }
-}
-
-const SELECT_PROJECT: &str = "SELECT project FROM slot WHERE id = ?1";
-
-/// The project that a slot is of: as it's named, where the slot is the one that was named last, or
-/// else found. It's the one that is named from then on.
-pub(crate) fn slot_project<S: Alter>(
-    alloc: Global,
-    conn: &mut Connection<S>,
-    named: &mut Option<ProjectSlot>,
-    slot: i64,
-) -> Result<String, Refusal>
-    requires named { IsNamed (state S.Store conn.old) named.old }
-    ensures project { HasCleanDisk (state S.Store conn.new) → (state S.Store conn.old).now.schema ≡ schema_two → (parts : Contents) (replies : Replies)
-        → Keeps (state S.Store conn.old).now.trees parts replies
-        → (project : List ℕ) (part : Part) → HasSlot (state S.Store conn.old).now.trees slot project part
-        → IfOk result (λ found. string_bytes found ≡ project) }
-    ensures named { OnOk result (IsNamed (state S.Store conn.new) named.new) }
-    ensures reads { OnlyReads S.Store result conn.old conn.new }
-{
-    if let Some(known) = &*named {
-        if known.id == slot {
-            return Ok(String::from_str(alloc, known.project.as_str())?);
-        }
-    }
-    *named = None;
-    let found: Option<String> = select_first(conn, SELECT_PROJECT, params![slot])?;
-    let Some(project) = found else {
-        return Err(Refusal::Row);
-    };
-    let kept = String::from_str(alloc, project.as_str())?;
-    *named = Some(ProjectSlot {
-        project: kept,
-        id: slot,
-    });
-    Ok(project)
 }
 
 const SELECT_BEARERS_OF_KEY: &str = naming_more!(

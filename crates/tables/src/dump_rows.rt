@@ -1,7 +1,6 @@
 //! The rows of a dump's tables, one type each, with the statements that insert them and the values
 //! of these. What they hold is in `specs/Columns`.
 ghost use Rattle.std.specs.Prelude.{IfSome, ◌≡◌};
-ghost use Rattle.flatten.specs.Flat.{role_index, kind_index};
 ghost use Rattle.lsif.specs.declared.request_kind.RequestKind.TheVariants.{Definition, References, Hover};
 ghost use Rattle.flatten.specs.Rows.{document_value, range_value, results_value, item_value, hover_value, mark_value, bearer_value};
 ghost use Rattle.tables.specs.Columns.{document_columns, range_columns, item_columns, hover_columns, mark_columns, bearer_columns};
@@ -9,33 +8,13 @@ ghost use Rattle.tables.specs.Steps.Inserts.{InsertsOne, InsertsEight};
 ghost use Rattle.tables.specs.TableTrees.{document_tree, range_row_tree, item_tree, hover_tree, mark_tree, bearer_tree};
 
 use crate::part_rows::PartRow;
-use dump::Role;
-use flatten::{BearerRow, DocRow, HoverRow, ItemRow, MarkRow, RangeRow, Results};
-use lsif::{MonikerKind, RequestKind};
+use flatten::{
+    BearerRow, DocRow, HoverRow, ItemRow, MarkRow, RangeRow, Results, kind_index, role_index,
+};
+use lsif::RequestKind;
 use sqlite::params;
 use sqlite::types::ValueRef;
 use std::alloc::AllocError;
-
-/// The number that a row has for a role.
-pub(crate) fn role_number(role: Role) -> u32
-    ensures { result ≡ role_index role }
-{
-    match role {
-        Role::Definitions => 0,
-        Role::References => 1,
-    }
-}
-
-/// The number that a row has for the kind of a moniker.
-pub(crate) fn kind_number(kind: MonikerKind) -> u32
-    ensures { result ≡ kind_index kind }
-{
-    match kind {
-        MonikerKind::Import => 0,
-        MonikerKind::Export => 1,
-        MonikerKind::Local => 2,
-    }
-}
 
 const INSERT_DOCUMENT: &str = "INSERT INTO document (slot, uri) VALUES (?1, ?2)";
 
@@ -163,7 +142,7 @@ impl PartRow for ItemRow<'_> {
 
     fn bind<'a>(&'a self, slot: i64, values: &mut Vec<ValueRef<'a>>) -> Result<(), AllocError> {
         let (first, last) = (self.span.start().pack(), self.span.end().pack());
-        let role = role_number(self.role);
+        let role = role_index(self.role);
         values.extend_from_slice(params![slot, self.result, role, self.uri, first, last])
     }
 }
@@ -208,7 +187,7 @@ impl PartRow for MarkRow {
     }
 
     fn bind<'a>(&'a self, slot: i64, values: &mut Vec<ValueRef<'a>>) -> Result<(), AllocError> {
-        let kind = kind_number(self.kind);
+        let kind = kind_index(self.kind);
         values.extend_from_slice(params![slot, self.range, kind, self.key.as_str()])
     }
 }
@@ -229,7 +208,7 @@ impl PartRow for BearerRow {
     }
 
     fn bind<'a>(&'a self, slot: i64, values: &mut Vec<ValueRef<'a>>) -> Result<(), AllocError> {
-        let (kind, key) = (kind_number(self.kind), self.key.as_str());
+        let (kind, key) = (kind_index(self.kind), self.key.as_str());
         let (def, refs, hover) = own_results(self.results);
         values.extend_from_slice(params![slot, self.line, key, kind, def, refs, hover])
     }

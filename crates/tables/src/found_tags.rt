@@ -15,10 +15,9 @@ ghost use Rattle.tables.specs.Steps.Slots.{IsNamed};
 ghost use Rattle.tables.specs.Steps.TagRows.{AllTell, Grows, IsFoundIf, IsTold, TellsTag, columns_of, tag_row_columns};
 ghost use Rattle.tables.specs.Steps.Clauses.{OfState, OnlyReads};
 
-use crate::bearers::slot_project;
 use crate::columns::column;
 use crate::fault::Refusal;
-use crate::parts::ProjectSlot;
+use crate::parts::{ProjectSlot, slot_project};
 use crate::selection::Listed;
 use machine::FoundTag;
 use serde_json::{Category, Value};

@@ -16,12 +16,12 @@ ghost use Rattle.tables.specs.declared.slots.Part.TheVariants.{Dump};
 ghost use Rattle.tables.specs.Steps.Clauses.{OfState, OnlyReads};
 
 use crate::columns::{column, span_of};
-use crate::dump_rows::role_number;
 use crate::fault::{Refusal, TablesFault};
 use crate::parts::{ProjectSlot, dump_slot};
 use crate::selection::{Listed, select_all};
 use crate::tables::Tables;
 use dump::Role;
+use flatten::role_index;
 use machine::FoundItem;
 use sqlite::{Alter, Connection, Row, params};
 use std::alloc::{AllocError, Global};
@@ -67,7 +67,7 @@ fn items_in<S: Alter>(
         → IfOk result (λ found. FindsItems m project result_number role (map item_found found.items))) }
     ensures reads { OnlyReads S.Store result conn.old conn.new }
 {
-    let role = role_number(role);
+    let role = role_index(role);
     select_all(
         alloc,
         conn,

@@ -1,13 +1,15 @@
-//! The parts of projects, as they are selected: the slot of a part, and the profile of a dump.
-ghost use Rattle.std.specs.Prelude.{◌≡◌, Some, option_map, IfOk, OnOk};
+//! The parts of projects, as they are selected: the slot of a part, the project of a slot, and the
+//! profile of a dump.
+ghost use Rattle.std.specs.Prelude.{◌≡◌, List, ℕ, Some, option_map, string_bytes, IfOk, OnOk};
 ghost use Rattle.sqlite.specs.State.{HasCleanDisk};
 ghost use Rattle.sqlite.specs.Held.{state};
 ghost use Rattle.tables.specs.Schema.{schema_two};
 ghost use Rattle.tables.specs.Columns.{profile_columns};
-ghost use Rattle.tables.specs.Contents.{Contents, Replies, Keeps};
+ghost use Rattle.tables.specs.Contents.{Contents, HasSlot, Replies, Keeps};
 ghost use Rattle.machine.specs.State.{State};
 ghost use Rattle.tables.specs.Stands.{OnlySelects, Rests};
-ghost use Rattle.tables.specs.Steps.Slots.{IsDumpSlot, IsKnown, IsSlotOf};
+ghost use Rattle.tables.specs.Steps.Slots.{IsDumpSlot, IsKnown, IsNamed, IsSlotOf};
+ghost use Rattle.tables.specs.declared.slots.Part.{Part};
 ghost use Rattle.tables.specs.declared.slots.Part.TheVariants.{Dump};
 ghost use Rattle.tables.specs.Steps.Clauses.{OfDump, OfState, OnlyReads};
 
@@ -69,6 +71,42 @@ pub(crate) fn dump_slot<S: Alter>(
     let project = String::from_str(alloc, project)?;
     *known = Some(ProjectSlot { project, id });
     Ok(Some(id))
+}
+
+const SELECT_PROJECT: &str = "SELECT project FROM slot WHERE id = ?1";
+
+/// The project that a slot is of: as it's named, where the slot is the one that was named last, or
+/// else found. It's the one that is named from then on.
+pub(crate) fn slot_project<S: Alter>(
+    alloc: Global,
+    conn: &mut Connection<S>,
+    named: &mut Option<ProjectSlot>,
+    slot: i64,
+) -> Result<String, Refusal>
+    requires named { IsNamed (state S.Store conn.old) named.old }
+    ensures project { HasCleanDisk (state S.Store conn.new) → (state S.Store conn.old).now.schema ≡ schema_two → (parts : Contents) (replies : Replies)
+        → Keeps (state S.Store conn.old).now.trees parts replies
+        → (project : List ℕ) (part : Part) → HasSlot (state S.Store conn.old).now.trees slot project part
+        → IfOk result (λ found. string_bytes found ≡ project) }
+    ensures named { OnOk result (IsNamed (state S.Store conn.new) named.new) }
+    ensures reads { OnlyReads S.Store result conn.old conn.new }
+{
+    if let Some(known) = &*named {
+        if known.id == slot {
+            return Ok(String::from_str(alloc, known.project.as_str())?);
+        }
+    }
+    *named = None;
+    let found: Option<String> = select_first(conn, SELECT_PROJECT, params![slot])?;
+    let Some(project) = found else {
+        return Err(Refusal::Row);
+    };
+    let kept = String::from_str(alloc, project.as_str())?;
+    *named = Some(ProjectSlot {
+        project: kept,
+        id: slot,
+    });
+    Ok(project)
 }
 
 impl Listed for Profile {

@@ -1,9 +1,10 @@
 //! Names, keys, URLs and numbers as they are read; codes and their replies; and what a command is
 //! of.
-use crate::asserts::expect_equal_text;
+use crate::asserts::{expect_equal, expect_equal_text};
 use crate::desks::{project, text_of};
 use desk::{Code, Command, DocUri, Key, ProjectName, Reply, read_number};
 use lsif::Profile;
+use machine::is_without_nul;
 use samples::{parted, there};
 use std::alloc::{AllocError, Global};
 use std::test::Fail;
@@ -148,6 +149,14 @@ fn forms_of_names_and_numbers(rt: HostRuntime) -> Result<(), Fail> {
         let (kind, text) = parted(short, " ")?;
         let found = read_as(rt.alloc(), kind, text)?;
         expect_equal_text(&rt, found.as_str(), wanted, short);
+    }
+    Ok(())
+}
+
+#[test]
+fn texts_with_nul(rt: HostRuntime) -> Result<(), Fail> {
+    for (text, wanted) in &[("", true), ("a", true), ("a\0", false), ("\0", false)] {
+        expect_equal(&rt, &is_without_nul(text), wanted, text);
     }
     Ok(())
 }

@@ -1,6 +1,8 @@
-//! What pairs of numbers lead to, and the texts of keys.
+//! What pairs of numbers lead to, the texts of keys, and the numbers that rows have for roles and
+//! kinds.
 use crate::asserts::{expect_equal, expect_equal_text};
-use flatten::{key_law, key_text, reach};
+use dump::Role;
+use flatten::{key_law, key_text, kind_index, reach, role_index};
 use lsif::{Moniker, MonikerKind, Package};
 use std::alloc::Global;
 use std::process::Abort;
@@ -153,5 +155,18 @@ fn key_texts(rt: HostRuntime) -> Result<(), Fail> {
         expect_key(&rt, MonikerKind::Import, *row)?;
         expect_key(&rt, MonikerKind::Export, *row)?;
     }
+    Ok(())
+}
+
+#[test]
+fn numbers_of_roles_and_kinds(rt: HostRuntime) -> Result<(), Fail> {
+    let roles = [role_index(Role::Definitions), role_index(Role::References)];
+    expect_equal(&rt, &roles, &[0, 1], "roles");
+    let kinds = [
+        kind_index(MonikerKind::Import),
+        kind_index(MonikerKind::Export),
+        kind_index(MonikerKind::Local),
+    ];
+    expect_equal(&rt, &kinds, &[0, 1, 2], "kinds");
     Ok(())
 }

@@ -14,5 +14,5 @@ returns-clause-found g c clean has m s project slot =
     let old = state g.S.Store c.args.conn.now in
     let new = state g.S.Store c.select_all.new.conn in
     IfOk-weaker c.select_all.result _ _ (λ found h.
-    items_found c.args.result_number c.args.role m c.args.slot project old new h.0.0 found.items s has slot (rw (c.params-to_sql.ensures, c.params-to_sql-2.ensures, c.params-to_sql-3.ensures, c.role_number-role.ensures, to_z-of_z c.ranges.slot) at h.0.1) h.0.2 h.1)
+    items_found c.args.result_number c.args.role m c.args.slot project old new h.0.0 found.items s has slot (rw (c.params-to_sql.ensures, c.params-to_sql-2.ensures, c.params-to_sql-3.ensures, c.role_index-role.ensures, to_z-of_z c.ranges.slot) at h.0.1) h.0.2 h.1)
     (ok_both c.select_all.result _ _ (c.select_all.ensures.read clean has) c.select_all.ensures.sound)

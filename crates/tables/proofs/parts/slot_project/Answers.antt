@@ -5,7 +5,7 @@ use Rattle.sqlite.specs.Held.{state}
 use Rattle.tables.proofs.Select.{reads}
 use Rattle.tables.proofs.FoundSlots.{select_project_is, project_found}
 use Rattle.tables.proofs.Knowing.{found_named, named_slot}
-use Rattle.tables.proofs.bearers.slot_project.Goals as goal
+use Rattle.tables.proofs.parts.slot_project.Goals as goal
 
 pub select_first-requires : goal.select_first-requires
 select_first-requires g c = reads select_project_is
