@@ -606,6 +606,37 @@ class DefinedTwice(OnFolder):
         self.assert_answers(rows)
 
 
+@unittest.skipUnless(shutil.which("clangd"), "clangd isn't installed")
+class TwoPrograms(OnFolder):
+    """Two programs that have names in common and no header, and a file for either."""
+
+    main = "int main(void) { struct opt o; o.x = 1; usage(o.x); return level; }\n"
+    files = {
+        "p1.c": f"int level;\nvoid usage(int a) {{ level = a; }}\nstruct opt {{ int x; }};\n{main}",
+        "p2.c": "\n\nint level;\nvoid usage(int b) { level = b + 1; }\nstruct opt { int y, x; };\n"
+        + main,
+        "p3.c": "extern int level;\nvoid usage(int);\nint use(void) { usage(1); return level; }\n",
+    }
+
+    def test_answers(self) -> None:
+        """Each word leads to its own program's, and that of neither to both."""
+        self.assertEqual(self.index()[0], 0)
+        rows: dict[tuple[str, str, int, int], Any] = {
+            ("references", "p1.c", 1, 5): ["p1.c:1", "p1.c:3", "p3.c:1", "p3.c:2"],
+            ("references", "p2.c", 3, 5): ["p2.c:3", "p2.c:5", "p3.c:1", "p3.c:2"],
+            ("references", "p1.c", 3, 4): ["p1.c:3"],
+        }
+        for file, at in ("p1.c", 0), ("p2.c", 2):
+            words = [(at, 4, 0), (at + 1, 5, 1), (at + 1, 20, 0), (at + 2, 7, 2), (at + 3, 4, 3)]
+            words += [(at + 3, 24, 2), (at + 3, 33, 2), (at + 3, 40, 1), (at + 3, 59, 0)]
+            words += [(at + 2, 17 if file == "p1.c" else 20, 2)]
+            for line, character, wanted in words:
+                rows["definition", file, line, character] = [f"{file}:{at + wanted}"]
+        for line, character, wanted in (0, 11, 0), (1, 5, 1), (2, 16, 1), (2, 33, 0):
+            rows["definition", "p3.c", line, character] = [f"p1.c:{wanted}", f"p2.c:{wanted + 2}"]
+        self.assert_answers(rows)
+
+
 @unittest.skipUnless(shutil.which("ccls"), "ccls isn't installed")
 class Ccls(OnFolder):
     """Another server of the same language, which says itself where the words are that it knows."""

@@ -130,7 +130,7 @@ class Listed(unittest.TestCase):
             ([node("s", 23, made)], [((), "s"), (("s",), "f"), (("s",), "s"), (("s", "s"), "m")]),
             ([node("empty", 15)], [((), "empty")]),
         ):
-            names = [(name.around, name.name) for _, name in names_in("u", found)]
+            names = [(name.around, name.name) for _, name in names_in("u", found, str)]
             self.assertEqual(names, wanted)
 
 
@@ -383,6 +383,50 @@ class OfC(Again):
         self.assertEqual(self.documents_again(), ["a.c"])
         self.assert_answers({("definition", "all.h", 2, 4): ["a.c:4"]})
 
+    def test_files_that_are_read(self) -> None:
+        """A file that is read and is none of the folder's documents, or wasn't there, or is named by a
+        word of the command or in a way that few write, counts as any other."""
+        inst = os.path.join(self.home, "inst")
+        os.mkdir(inst)
+        use = "int one(void);\nint two(void);\nint f(void) {\n#ifdef FOO\n  return one();\n#else\n"
+        use += "  return two();\n#endif\n}\n"
+        rows = {
+            "config.inc": '#include "config.inc"\n',
+            ".gen/config.h": '#include ".gen/config.h"\n',
+            "../inst/foo.h": "#include <foo.h>\n",
+            "odd.h": '#include \\\n"odd.h"\n',
+            "odder.h": '# /* x */ include /* y */ "odder.h"\n',
+            "oddest.h": '%:include "oddest.h"\n',
+            "forced.h": "",
+        }
+        for name, text in rows.items():
+            flags = f"-I{inst}\n" + ("-include\nforced.h\n" if name == "forced.h" else "")
+            tree = {"compile_flags.txt": flags, "a.c": text + use}
+            for given in ("/* none */\n", "#define FOO 1\n", None, "#define FOO 2\n"):
+                if given is not None:
+                    tree[name] = given
+                self.put(tree if given is not None else {"a.c": tree["a.c"]})
+                with self.subTest(name=name, given=given):
+                    self.again()
+            shutil.rmtree(inst)
+            os.mkdir(inst)
+
+    def test_hovers(self) -> None:
+        """What is said of a name that several files declare is what they say now."""
+        for one in ("int f(int x);", "extern int f;", "struct f;"):
+            use = "int k(void) { return f(1); }\n" if "(" in one else ""
+            tree = {"k.h": f"/** one */\n{one}\n", "d.c": f"{one}\n{use}"}
+            for text in ("/** one */", "/** two */", "", "/** one */"):
+                tree["k.h"] = f"{text}\n{one}\n"
+                self.put(tree)
+                with self.subTest(one=one, text=text):
+                    self.again()
+
+    def test_one_file_for_both(self) -> None:
+        status, said = self.call("--state", self.out)
+        self.assertEqual((status, os.path.exists(self.out)), (2, False), said)
+        self.assertIn("it's named for the dump and for --state", said)
+
 
 BODIES = (
     "{ return 1 }",
@@ -426,7 +470,7 @@ def edit_go(chance: random.Random, tree: Tree) -> None:
 
 
 @unittest.skipUnless(shutil.which("gopls") and shutil.which("go"), "gopls isn't installed")
-class OfGo(OfC):
+class OfGo(Again):
     files = {
         "go.mod": "module m\n\ngo 1.19\n",
         "a/a.go": "package a\n\ntype Base struct{ Side int }\n\ntype A struct{ Base }\n\n"
@@ -474,6 +518,28 @@ class OfGo(OfC):
                 ("definition", "e/e.go", 4, 27): ["a.go:15"],
             }
         )
+
+    def test_later(self) -> None:
+        """What a file with errors didn't find is found once it's there: in another module, and a file that
+        git ignores."""
+        mod = "module m\n\ngo 1.19\n\nrequire e.x/l v0.0.0\n\nreplace e.x/l => ../l\n"
+        use = 'package m\n\nimport "e.x/l"\n\nvar V = l.One() + l.Two()\n'
+        beside = os.path.join(self.home, "l")
+        self.put({"go.mod": mod, "m.go": use, "n/n.go": "package n\n\nvar N = Made()\n"})
+        files = {
+            "go.mod": "module e.x/l\n\ngo 1.19\n",
+            "one.go": "package l\n\nfunc One() int { return 1 }\n",
+            "two.go": "package l\n\nfunc Two() int { return 2 }\n",
+            "../code/n/made.go": "package n\n\nfunc Made() int { return 1 }\n",
+        }
+        self.call("--state", self.state)
+        os.mkdir(beside)
+        for name, text in files.items():
+            with open(os.path.join(beside, name), "w", encoding="utf-8") as file:
+                file.write(text)
+            if name != "go.mod":
+                with self.subTest(name=name):
+                    self.again()
 
     def test_over_files(self) -> None:
         """A file that leads to what changed over two others is asked again: it leads elsewhere then."""

@@ -173,7 +173,9 @@ class InOrder(unittest.TestCase):
     def test_by_chance(self) -> None:
         for seed in range(100):
             chance = random.Random(seed)
-            own = [Place(f"file:///own/{file}.go", at, 0, at, 3) for file in "ab" for at in range(5)]
+            own = [
+                Place(f"file:///own/{file}.go", at, 0, at, 3) for file in "ab" for at in range(5)
+            ]
             other = [Place(f"file:///{name}.go", at, 0, at, 3) for name in "xyz" for at in (1, 2)]
             found = Answers(words={word.at: word for word in own})
             for word in own:

@@ -27,11 +27,13 @@ def includes(documents: Iterable[Document]) -> dict[str, set[str]]:
     }
 
 
-def including(documents: Iterable[Document], moved: set[str]) -> set[str]:
-    """The documents that include some file, over any number of files, by their names."""
+def including(kept: Kept, documents: Iterable[Document], moved: set[str]) -> set[str]:
+    """The documents that include some file, over any number of files, by their names; or that did, by
+    what is kept."""
     by_name, found = defaultdict[str, list[str]](list), set[str]()
     for uri, names in includes(documents).items():
-        for name in names:
+        before = kept.documents.get(uri, Known("")).includes
+        for name in names | {os.path.basename(one) for one in before}:
             by_name[name].append(uri)
     rest = list(moved)
     while rest:
@@ -68,7 +70,7 @@ def leading_far(kept: Kept, moved: set[str]) -> set[str]:
 
 def by_includes(kept: Kept, documents: list[Document], moved: set[str]) -> set[str]:
     """What depends on documents where all that a file knows is what it includes."""
-    return including(documents, moved) | leading(kept, moved)
+    return including(kept, documents, moved) | leading(kept, moved)
 
 
 def failing(kept: Kept, documents: list[Document], moved: set[str]) -> set[str]:

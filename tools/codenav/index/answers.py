@@ -31,20 +31,22 @@ class Place(NamedTuple):
 
 class Name(NamedTuple):
     """A name that a document declares: the names around it, its kind by the protocol's number, how
-    many lines and, on the last one, UTF-16 code units its declaration has, and what a server says
-    of it in its list."""
+    many lines and, on the last one, UTF-16 code units its declaration has, what a server says of it
+    in its list, and whether it's defined there."""
 
     around: tuple[str, ...]
     name: str
     kind: int
     size: tuple[int, int]
     detail: str = ""
+    is_defined: bool = True
 
 
 @dataclass(slots=True)
 class Answers:
     """What was answered: the words and where each leads, and the names, by their places; by the
-    symbols, which are places that words lead to, what is said of them and what implements them.
+    symbols, which are places that words lead to, what is said of them and what implements them; and
+    the files that documents of C include.
 
     A way to index that isn't a language server's may know more: the places that declare a symbol
     apart from its own, and the further ones that define it, the package and the identifier by
@@ -60,6 +62,7 @@ class Answers:
     further: dict[Place, list[Place]] = field(default_factory=dict)
     identifiers: dict[At, tuple[Package, str]] = field(default_factory=dict)
     packages: dict[str, Package] = field(default_factory=dict)
+    includes: dict[str, list[str]] = field(default_factory=dict)
     empty: int = 0
 
     def add(self, other: "Answers") -> None:

@@ -5,6 +5,7 @@ What a server answers at a word without a token is a guess by the name: in code 
 in the body of a macro, in a text. So nothing is asked there.
 """
 
+import sys
 from collections import Counter, defaultdict
 from typing import Any, Callable, Container, Iterable, Iterator
 
@@ -12,6 +13,7 @@ from codenav.addresses import spelled
 from codenav.faults import BadCall
 from codenav.index.answers import Answers, Name, Place
 from codenav.index.documents import Lines
+from codenav.index.languages import is_c
 from codenav.index.questions import Question
 from codenav.index.team import Team
 from codenav.kinds import hover_text
@@ -38,6 +40,8 @@ IMPLEMENTED = {5, 6, 10, 11, 12, 23}
 """Kinds of symbols that may have implementations: class, method, enum, interface, function, struct."""
 CALLED = {6, 9, 12}
 """Kinds of symbols that are called: method, constructor, function."""
+BODIED = {5, 10, 12, 23}
+"""Kinds of symbols that have a body where they're defined: class, enum, function, struct."""
 MACRO = 15
 """As what kind clangd lists the use of a macro that makes names: it has no kind for one."""
 NO_ANSWER = ("no object found", "no identifier found", "not a type name", "no type info")
@@ -92,10 +96,19 @@ def unwrapped(found: Iterable[Any]) -> Iterator[Any]:
         yield from unwrapped(one["children"]) if is_macro else (one,)
 
 
-def names_in(uri: str, found: Any, around: tuple[str, ...] = ()) -> Iterator[tuple[Place, Name]]:
+def is_definition(kind: int, text: str) -> bool:
+    """Whether what declares a name in C defines it, by its text: a function and a type have a body then,
+    and a variable isn't said to be elsewhere."""
+    return text.endswith("}") if kind in BODIED else not text.startswith("extern")
+
+
+def names_in(
+    uri: str, found: Any, text_of: Callable[[Place], str], around: tuple[str, ...] = ()
+) -> Iterator[tuple[Place, Name]]:
     """The names that a document declares, by the protocol's tree or list. Of several with one name
     side by side those that are called have their types too, as a server says them, and all but
     the first of what is still the same have a number. The use of a macro is none, but what it makes.
+    Whether it's defined there is known by the texts of declarations where these are told.
     """
     found, seen = list(unwrapped(found or ())), Counter[str]()
     named = Counter(one["name"] for one in found)
@@ -110,8 +123,10 @@ def names_in(uri: str, found: Any, around: tuple[str, ...] = ()) -> Iterator[tup
             name = f"{name}#{seen[name]}"
         lines = whole.end_line - whole.line
         size = lines, whole.end - (0 if lines else whole.start)
-        yield place, Name(around, name, one["kind"], size, str(one.get("detail") or ""))
-        yield from names_in(uri, one.get("children"), (*around, name))
+        is_defined = is_definition(one["kind"], text_of(whole))
+        own = Name(around, name, one["kind"], size, str(one.get("detail") or ""), is_defined)
+        yield place, own
+        yield from names_in(uri, one.get("children"), text_of, (*around, name))
 
 
 def at(place: Place) -> dict[str, Any]:
@@ -201,11 +216,29 @@ class Asking:
         """Asks for the names that documents declare."""
 
         def take(uri: str, result: Any) -> None:
-            for place, name in names_in(uri, result):
+            for place, name in names_in(uri, result, self.declaration):
                 self.found.names.setdefault(place.at, name)
 
         whole = {uri: {"textDocument": {"uri": uri}} for uri in uris}
         self.ask(what, "documentSymbol", whole, take)
+
+    def includes(self, uris: Iterable[str]) -> None:
+        """Asks which files documents include."""
+
+        def take(uri: str, result: Any) -> None:
+            links = {str(one.get("target")) for one in result}
+            self.found.includes[uri] = sorted(spelled(to) for to in links if to.startswith("file:"))
+
+        if self.talk.first.offers.get("documentLinkProvider"):
+            asked = {uri: {"textDocument": {"uri": uri}} for uri in uris}
+            self.ask("includes", "documentLink", asked, take)
+
+    def declaration(self, place: Place) -> str:
+        """The first line of what declares a name of C, and how it ends; a body of another language."""
+        if not is_c(place.uri):
+            return "}"
+        ends = Place(place.uri, place.end_line, max(place.end - 1, 0), place.end_line, place.end)
+        return self.lines.text(place._replace(end=sys.maxsize)) + self.lines.text(ends)
 
     def take_places(self, found: dict[Place, list[Place]]) -> Callable[[Place, Any], None]:
         """What keeps the places of answers."""

@@ -15,6 +15,8 @@ DATABASE_AT = re.compile(r"\bCompilationDatabase\s*:\s*[\"']?([^\"'\n#,}]+)")
 """Where a `.clangd` has such a one looked for."""
 RESPONSE = re.compile(r"(?:^|\s)[\"']?@([^\s\"']+)")
 """A file with further words of a command."""
+INCLUDED = re.compile(r"-(?:include|imacros)[\s\"',=]*([^\s\"',]+)")
+"""A file that each file includes by a word of its command."""
 
 
 class Building(NamedTuple):
@@ -72,8 +74,9 @@ def named_in(path: str) -> list[str]:
     """The files that such a file names: databases elsewhere, and files of further words."""
     folder, name = os.path.split(path)
     text = text_in(folder, name)
-    if name == DATABASES[0]:
-        return sorted(responses(folder, text)) if "@" in text else []
+    if name in (DATABASES[0], FLAGS):
+        further = responses(folder, text) if name != FLAGS and "@" in text else set()
+        return sorted(further | {os.path.join(folder, one) for one in INCLUDED.findall(text)})
     if name not in (".clangd", "config.yaml"):
         return []
     places = [os.path.join(folder, at.strip()) for at in DATABASE_AT.findall(text)]

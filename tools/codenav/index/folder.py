@@ -194,7 +194,9 @@ class Indexing:
 
 
 def index(folder: str, out: str, how: How, shows: Shows) -> Outcome:
-    """Writes the dump of a folder, prepared for the server, into a file."""
+    """Writes the dump of a folder, prepared for the server, into a file. Raises BadCall."""
+    if how.state is not None and os.path.realpath(how.state) == os.path.realpath(out):
+        raise BadCall(f"{out}: it's named for the dump and for --state")
     with (
         tempfile.TemporaryDirectory(prefix="codenav-index-", ignore_cleanup_errors=True) as work,
         whole_file(out) as file,

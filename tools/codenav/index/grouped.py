@@ -3,7 +3,6 @@
 from collections import Counter, defaultdict
 
 from codenav.index.answers import Answers, Place
-from codenav.index.kept import Kept, Known
 from codenav.index.languages import is_c, is_header
 
 
@@ -76,14 +75,15 @@ class Grouped:
                     self.declared[both[0]].append(both[1])
 
     def join(self) -> None:
-        """Has a word lead to each of several definitions of what C declares once, as two programs in a
-        folder have them, unless its own file has one: each leads to the declaration, which leads to one
-        of them."""
+        """Has a word lead to each of several definitions of one name in C, as two programs in a folder have
+        them, unless its own file has one. Each of them leads to one that's the first for the server, or
+        to the declaration, which leads to one."""
         owner = {place: symbol for symbol, places in self.declared.items() for place in places}
+        owner |= {place: place for place in self.leads if self.leads[place] == [place]}
         several = defaultdict[Place, list[Place]](list)
         for word, places in self.leads.items():
             symbol = owner.get(places[0], word) if len(places) == 1 else word
-            if symbol != word and word.at in self.found.names and is_c(word.uri):
+            if symbol != word and self.defines(word) and self.defines(symbol):
                 several[symbol].append(word)
         every = {
             one: sorted((symbol, *others))
@@ -95,20 +95,14 @@ class Grouped:
                 self.leads[other] = [other]
                 self.declared[other] = self.declared[symbol]
         for word, places in self.leads.items():
-            if len(places) == 1 and places[0].uri != word.uri:
-                self.leads[word] = every.get(places[0], places)
+            group = every.get(places[0], []) if len(places) == 1 and word not in every else []
+            own = [one for one in group if one.uri == word.uri]
+            self.leads[word] = own or group or places
 
-    def declared_in(self, uris: set[str], before: Kept) -> set[Place]:
-        """The symbols that documents declare, or did: clangd says of a symbol what any document has beside a
-        declaration of it."""
-        places = set[Place]()
-        for known in (before.documents.get(uri, Known("")) for uri in uris):
-            for word, leads in known.leads.items():
-                places.update(leads if word.at in known.names else ())
-        for word, leads in self.found.leads.items():
-            places.update(leads if word.uri in uris and word.at in self.found.names else ())
-        several = self.declared.items()
-        return places | {symbol for symbol, own in several if not places.isdisjoint(own)}
+    def defines(self, place: Place) -> bool:
+        """Whether a place is a definition of C."""
+        name = self.found.names.get(place.at)
+        return name is not None and name.is_defined and is_c(place.uri)
 
     def tags(self) -> dict[Place, Place]:
         """For each symbol the word at which it's asked for: its own where that leads there, or the first

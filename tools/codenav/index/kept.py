@@ -20,7 +20,7 @@ FORM = f"codenav index {VERSION}, 3"
 class Known:
     """What was answered of a document: the digest of its text, its words and where they lead, the names
     that it declares, the errors that the server found in it, the digest of what others hold by, whether
-    its words were answered, and of which of them it wasn't where they lead.
+    its words were answered, of which of them it wasn't where they lead, and the files that it includes.
     """
 
     digest: str
@@ -31,6 +31,7 @@ class Known:
     surface: str = ""
     is_whole: bool = True
     missing: list[Place] = field(default_factory=list)
+    includes: list[str] = field(default_factory=list)
 
 
 @dataclass(slots=True)
@@ -140,7 +141,8 @@ class Written:
                 ]
                 names = [[*at[1:], *name] for at, name in one.names.items()]
                 missing = [word[1:] for word in one.missing]
-                more = one.errors, one.surface, one.is_whole, missing
+                included = list(map(self.uri, one.includes))
+                more = one.errors, one.surface, one.is_whole, missing, included
                 self.line(kind, uri, one.digest, words, leads, names, *more)
         for symbol, asked in kept.symbols.items():
             places = [self.place(to) for to in asked.implementations]
@@ -197,20 +199,21 @@ def lines_of(file: BinaryIO) -> Iterator[tuple[str, Kept]]:
             body = next(file, b"").removesuffix(b"\n")
             kept.said[uri] = Said(digest, [uris[number] for number in read_for], names, body)
         elif kind != "form":
-            uri, digest, words, leads, names, errors, surface, is_whole, missing = parts
+            uri, digest, words, leads, names, errors, surface, is_whole, missing, included = parts
             documents = kept.documents if kind == "document" else kept.outside
             documents[uri] = Known(
                 digest,
                 [Place(uri, *word) for word in words],
                 {Place(uri, *word): list(map(place, places)) for word, places in leads},
                 {
-                    (uri, at, start): Name(tuple(around), name, number, (size[0], size[1]), detail)
-                    for at, start, around, name, number, size, detail in names
+                    (uri, at, start): Name(tuple(around), name, number, (size[0], size[1]), *more)
+                    for at, start, around, name, number, size, *more in names
                 },
                 errors,
                 surface,
                 is_whole,
                 [Place(uri, *word) for word in missing],
+                [uris[number] for number in included],
             )
     if language:
         yield language, kept

@@ -81,8 +81,9 @@ class Language(NamedTuple):
     answers of it, the first that's installed; what is at the top of a folder where it's built, and
     what is missed where none of that is there; the indexer that comes before these; its packages'
     manager, and the package of a folder; what depends on a file that changed; whether a type
-    implements another by what it has alone; what says to its servers how files are built; and what
-    of a text other files hold by.
+    implements another by what it has alone; what says to its servers how files are built; what of a
+    text other files hold by; and whether files include others, where a server says of a symbol what
+    any of them has beside a declaration.
     """
 
     name: str
@@ -97,6 +98,7 @@ class Language(NamedTuple):
     is_structural: bool = False
     building: Building = Building()
     surface: Callable[[Document], str] = text_of
+    includes: bool = False
 
 
 LANGUAGES = (
@@ -126,6 +128,7 @@ LANGUAGES = (
             ("CPATH", "C_INCLUDE_PATH", "CPLUS_INCLUDE_PATH", "CLANGD_"),
         ),
         surface=lambda one: c_surface(one.text) if one.uri.endswith(".c") else one.text,
+        includes=True,
     ),
     Language(
         "Go",

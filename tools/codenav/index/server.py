@@ -73,13 +73,17 @@ class Server:
         }
         held = [known[uri] for uri in digests.keys() - self.changed]
         self.missing = {word for one in held for word in one.missing}
-        self.faulty = {uri for uri in digests.keys() - self.changed if not known[uri].is_whole}
+        self.faulty = {
+            uri
+            for uri in digests.keys() - self.changed
+            if known[uri].errors or not known[uri].is_whole
+        }
         self.moved = self.changed | (known.keys() - digests.keys())
         for uri, one in self.before.outside.items():
             if one.digest != stamp_of(path_of(uri, [])):
                 self.moved.add(uri)
         self.again, self.differs = set[str](), False
-        self.told_of = set[Place]()
+        self.told_of, self.is_ready = set[Place](), True
         texts = given.documents if self.changed else ()
         included = set[str]().union(*includes(texts).values())
         for uri, digest in digests.items():
@@ -124,6 +128,7 @@ class Server:
         for uri in new:
             talk.open(*self.documents[uri])
         if not talk.settle():
+            self.is_ready = False
             what = "the server wasn't ready, and was asked all the same"
             said = f", and says: {talk.first.fault}" if talk.first.fault else ""
             notes.leave_out(what, f"{self.given.folder}{said}")
@@ -139,6 +144,8 @@ class Server:
         else:
             self.again = set(self.documents)
         asking.documents(sorted(self.again))
+        if self.language.includes:
+            asking.includes(sorted(self.again))
         self.before.add_to(found, self.documents.keys() - self.again)
         found.empty -= len(self.missing)
         asking.definitions(sorted(self.missing))
@@ -149,6 +156,7 @@ class Server:
             self.given.mind(text)
         for uri in self.again:
             self.after.documents[uri].errors = talk.first.errors.get(uri, [])[:1]
+            self.after.documents[uri].includes = found.includes.get(uri, [])
         self.keep(found, asking.faulty)
         return found
 
@@ -164,7 +172,10 @@ class Server:
         self.open(talk, again)
         asking.outlines("names of what depends on that", sorted(again))
         names, self.differs = declared(asking.found.names, self.before, moved)
-        names |= declared(asking.found.names, self.before, again - self.faulty)[0]
+        same = {
+            uri for uri in self.faulty if talk.first.errors.get(uri, [])[:1] == before[uri].errors
+        }
+        names |= declared(asking.found.names, self.before, again - same)[0]
         texts = {uri: words_of(one.text) for uri, one in self.documents.items()}
         again |= self.changed | {uri for uri, words in texts.items() if words & names}
         kept = self.documents.keys() - again
@@ -213,8 +224,10 @@ class Server:
 
     def ask_symbols(self, talk: Team, asking: Asking) -> None:
         """Asks what isn't kept of symbols. Nothing of C implements anything."""
-        grouped = Grouped(asking.found)
-        tags, self.told_of = grouped.tags(), grouped.declared_in(self.moved, self.before)
+        tags = Grouped(asking.found).tags()
+        if self.language.includes:
+            names = self.named_in_moved(asking.found)
+            self.told_of = {symbol for symbol in tags if self.lines.text(symbol) in names}
         is_plain = self.kind in self.language.ways and self.identifiers == {"c"}
         new = {symbol: word for symbol, word in tags.items() if not self.is_kept(symbol, word)}
         able = {
@@ -233,6 +246,13 @@ class Server:
         for symbol in tags.keys() - asking.faulty["hover"] - asking.faulty["implementation"]:
             self.after.symbols[symbol] = Asked(tags[symbol])
 
+    def named_in_moved(self, found: Answers) -> set[str]:
+        """The names that documents declare, or did, that aren't as before."""
+        known = [self.before.documents.get(uri, Known("")) for uri in self.moved]
+        names = [name.name for one in known for name in one.names.values()]
+        names += [name.name for at, name in found.names.items() if at[0] in self.moved]
+        return {word for name in names for word in words_of(name)}
+
     def keep_symbols(self, found: Answers, tags: dict[Place, Place]) -> None:
         """Has what was known of symbols hold still."""
         for symbol, word in tags.items():
@@ -248,6 +268,7 @@ class Server:
         for uri, one in self.after.documents.items():
             if uri not in self.again:
                 one.errors = self.before.documents[uri].errors
+                one.includes = self.before.documents[uri].includes
             for text in one.errors:
                 where = f"{path_of(uri, []) or uri}: {text}"
                 what = "what errors in a file hide from the server"
@@ -257,12 +278,15 @@ class Server:
         for word, places in found.leads.items():
             self.after.documents[word.uri].leads[word] = places
         outside = {to.uri for places in found.leads.values() for to in places}
+        outside |= {uri for one in self.after.documents.values() for uri in one.includes}
         self.after.outside = outside_of(sorted(outside - self.documents.keys()), found)
         for at, name in found.names.items():
             if at[0] in self.after.documents:
                 self.after.documents[at[0]].names[at] = name
         for word in sorted(faulty.get("definition", ())):
             self.after.documents[word.uri].missing.append(word)
+        for uri in set() if self.is_ready else self.again:
+            self.after.documents[uri].is_whole = False
         for uri in faulty.get("semanticTokens/full", ()):
             self.after.documents[uri].is_whole = False
         for uri in faulty.get("documentSymbol", ()):
