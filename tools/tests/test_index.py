@@ -576,6 +576,17 @@ int first(struct box *box) {
                 self.assertEqual(status, 1, said)
                 self.assertTrue(said.endswith(wanted), said)
 
+    def test_undefined(self) -> None:
+        """What's undefined leads nowhere: where it's no macro's name it would by a guess."""
+        with open(os.path.join(self.folder, "lone.c"), "w", encoding="utf-8") as file:
+            file.write("#define ONE 1\n#undef ONE\n#undef both\n")
+        self.index()
+        rows: dict[tuple[str, str, int, int], Any]
+        rows = {("definition", "lone.c", line, 7): [] for line in (1, 2)}
+        self.assert_answers(
+            {**rows, ("references", "src/two.c", 1, 4): ["api.h:3", "one.c:6", "two.c:1"]}
+        )
+
 
 @unittest.skipUnless(shutil.which("clangd"), "clangd isn't installed")
 class DefinedTwice(OnFolder):

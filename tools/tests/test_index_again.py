@@ -398,14 +398,14 @@ class OfC(Again):
             "odder.h": '# /* x */ include /* y */ "odder.h"\n',
             "oddest.h": '%:include "oddest.h"\n',
             "forced.h": "",
+            "asked.h": '#if __has_include("asked.h")\n#define FOO 3\n#endif\n',
         }
         for name, text in rows.items():
             flags = f"-I{inst}\n" + ("-include\nforced.h\n" if name == "forced.h" else "")
             tree = {"compile_flags.txt": flags, "a.c": text + use}
             for given in ("/* none */\n", "#define FOO 1\n", None, "#define FOO 2\n"):
-                if given is not None:
-                    tree[name] = given
-                self.put(tree if given is not None else {"a.c": tree["a.c"]})
+                tree.pop(name, None)
+                self.put(tree | ({name: given} if given else {}))
                 with self.subTest(name=name, given=given):
                     self.again()
             shutil.rmtree(inst)

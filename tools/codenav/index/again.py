@@ -11,7 +11,9 @@ from codenav.index.kept import Kept, Known
 from codenav.texts.places import path_of
 
 INCLUDE = re.compile(
-    r'^[ \t]*#[ \t]*(?:include|include_next|import)[ \t]*[<"]([^>"\n]+)', re.MULTILINE
+    r"(?:^[ \t]*#[ \t]*(?:include|include_next|import)|\b__has_include(?:_next)?[ \t]*\()"
+    r'[ \t]*[<"]([^>"\n]+)',
+    re.MULTILINE,
 )
 WORD = re.compile(r"[^\W\d]\w*")
 PLAIN = {12, 13, 14}

@@ -5,6 +5,7 @@ What a server answers at a word without a token is a guess by the name: in code 
 in the body of a macro, in a text. So nothing is asked there.
 """
 
+import re
 import sys
 from collections import Counter, defaultdict
 from typing import Any, Callable, Container, Iterable, Iterator
@@ -44,6 +45,8 @@ BODIED = {5, 10, 12, 23}
 """Kinds of symbols that have a body where they're defined: class, enum, function, struct."""
 MACRO = 15
 """As what kind clangd lists the use of a macro that makes names: it has no kind for one."""
+UNDEF = re.compile(r"\s*#\s*undef\b")
+"""A line of C at whose name clangd guesses where the macro isn't known there."""
 NO_ANSWER = ("no object found", "no identifier found", "not a type name", "no type info")
 """How errors begin or go on that mean that there's nothing at a place: they have no code of their
 own."""
@@ -244,6 +247,8 @@ class Asking:
         """What keeps the places of answers."""
 
         def take(word: Place, result: Any) -> None:
+            if UNDEF.match(self.lines.line(word.uri, word.line)):
+                return
             name, own = self.lines.text(word), map(self.lines.unmarked, places_in(result))
             places = sorted({self.lines.named(place, name) for place in own})
             sure = [place for place in places if place.uri not in self.unsure]
