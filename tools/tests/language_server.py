@@ -69,8 +69,11 @@ def result_of(method: str, params: Any) -> Any:
     """The answer to a request."""
     if method == "initialize":
         legend = {"tokenTypes": ["function"], "tokenModifiers": []}
-        offers = {"hoverProvider": True, "semanticTokensProvider": {"legend": legend}}
-        return {"capabilities": {**offers, "implementationProvider": True}}
+        offers = {"hoverProvider": {}, "semanticTokensProvider": {"legend": legend}}
+        more = {"implementationProvider": True, "documentLinkProvider": {}}
+        return {"capabilities": {**offers, **more}}
+    if method == "documentLink":
+        return []
     if method == "semanticTokens/full":
         return {"data": tokens(params["textDocument"]["uri"])}
     if method == "documentSymbol":

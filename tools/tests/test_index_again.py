@@ -234,6 +234,7 @@ class StoodIn(Again):
             "hover": ([], 0),
             "documentSymbol": (["api.h", "one.c", "two.c"], 12),
             "semanticTokens/full": (["api.h"], 2),
+            "documentLink": (["api.h"], 2),
         }
         for method, (files, words) in rows.items():
             with self.subTest(method=method):

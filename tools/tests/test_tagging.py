@@ -60,7 +60,7 @@ class Tagging(InRepository):
         self.assertEqual(self.lines(), [("two", "a.c")])
 
     def test_fault(self) -> None:
-        """What it says last is told, and the files that it leaves are in the folder of the tags."""
+        """What it says last is said, and the files that it leaves are in the folder of the tags."""
         self.write("a.c", SOURCE)
         self.commit()
         programs, work = (os.path.join(self.home, name) for name in ("bin", "made"))

@@ -21,21 +21,11 @@ from codenav.kinds import hover_text
 from codenav.outcome import Notes
 from codenav.progress import Shows
 
-NO_NAMES = {
-    *("comment", "keyword", "string", "number", "regexp", "operator", "modifier", "boolean"),
-    *(
-        "angle",
-        "arithmetic",
-        "attributeBracket",
-        "bitwise",
-        "brace",
-        "bracket",
-        "character",
-        "colon",
-    ),
-    *("comma", "comparison", "dot", "escapeSequence", "formatSpecifier", "logical", "macroBang"),
-    *("parenthesis", "punctuation", "semicolon"),
-}
+NO_NAMES = set(
+    "comment keyword string number regexp operator modifier boolean angle arithmetic attributeBracket "
+    "bitwise brace bracket character colon comma comparison dot escapeSequence formatSpecifier logical "
+    "macroBang parenthesis punctuation semicolon".split()
+)
 """Types of tokens that are no names: the protocol's, and rust-analyzer's."""
 IMPLEMENTED = {5, 6, 10, 11, 12, 23}
 """Kinds of symbols that may have implementations: class, method, enum, interface, function, struct."""
@@ -111,7 +101,7 @@ def names_in(
     """The names that a document declares, by the protocol's tree or list. Of several with one name
     side by side those that are called have their types too, as a server says them, and all but
     the first of what is still the same have a number. The use of a macro is none, but what it makes.
-    Whether it's defined there is known by the texts of declarations where these are told.
+    Whether it's defined there is known by the texts of declarations where these are given.
     """
     found, seen = list(unwrapped(found or ())), Counter[str]()
     named = Counter(one["name"] for one in found)
@@ -156,6 +146,10 @@ class Asking:
                 "it has no semantic tokens, by which the words are known that it doesn't guess at"
             )
             raise BadCall(f"{talk.kind.line}: {text}")
+
+    def may(self, offer: str) -> bool:
+        """Whether a server may be asked something, by what it offers: true, or options, if empty ones."""
+        return self.talk.first.offers.get(offer, False) not in (None, False)
 
     def ask(
         self, what: str, method: str, asked: dict[Any, Any], take: Callable[[Any, Any], None]
@@ -232,7 +226,7 @@ class Asking:
             links = {str(one.get("target")) for one in result}
             self.found.includes[uri] = sorted(spelled(to) for to in links if to.startswith("file:"))
 
-        if self.talk.first.offers.get("documentLinkProvider"):
+        if self.may("documentLinkProvider"):
             asked = {uri: {"textDocument": {"uri": uri}} for uri in uris}
             self.ask("includes", "documentLink", asked, take)
 
@@ -268,13 +262,13 @@ class Asking:
             if hover_text(result["contents"]):
                 self.found.hovers[symbol] = result["contents"]
 
-        if self.talk.first.offers.get("hoverProvider"):
+        if self.may("hoverProvider"):
             asked = {symbol: at(word) for symbol, word in tags.items()}
             self.ask("hovers", "hover", asked, take)
 
     def implementations(self, tags: dict[Place, Place]) -> None:
         """Asks what implements symbols, each at a word that leads to it."""
-        if self.talk.first.offers.get("implementationProvider"):
+        if self.may("implementationProvider"):
             keep = self.take_places(self.found.implementations)
             asked = {symbol: at(word) for symbol, word in tags.items()}
             self.ask("implementations", "implementation", asked, keep)

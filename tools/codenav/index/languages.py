@@ -73,7 +73,6 @@ class Pass(NamedTuple):
 
 
 Way = Union[ServerKind, Pass]
-text_of: Callable[[Document], str] = attrgetter("text")
 
 
 class Language(NamedTuple):
@@ -97,8 +96,8 @@ class Language(NamedTuple):
     depends: Depends = by_leads
     is_structural: bool = False
     building: Building = Building()
-    surface: Callable[[Document], str] = text_of
-    includes: bool = False
+    surface: Callable[[Document], str] = attrgetter("text")
+    has_includes: bool = False
 
 
 LANGUAGES = (
@@ -128,7 +127,7 @@ LANGUAGES = (
             ("CPATH", "C_INCLUDE_PATH", "CPLUS_INCLUDE_PATH", "CLANGD_"),
         ),
         surface=lambda one: c_surface(one.text) if one.uri.endswith(".c") else one.text,
-        includes=True,
+        has_includes=True,
     ),
     Language(
         "Go",

@@ -71,13 +71,9 @@ class Server:
         self.changed = {
             uri for uri, digest in digests.items() if known.get(uri, Known("")).digest != digest
         }
-        held = [known[uri] for uri in digests.keys() - self.changed]
-        self.missing = {word for one in held for word in one.missing}
-        self.faulty = {
-            uri
-            for uri in digests.keys() - self.changed
-            if known[uri].errors or not known[uri].is_whole
-        }
+        held = {uri: known[uri] for uri in digests.keys() - self.changed}
+        self.missing = {word for one in held.values() for word in one.missing}
+        self.faulty = {uri for uri, one in held.items() if one.errors or not one.is_whole}
         self.moved = self.changed | (known.keys() - digests.keys())
         for uri, one in self.before.outside.items():
             if one.digest != stamp_of(path_of(uri, [])):
@@ -144,7 +140,7 @@ class Server:
         else:
             self.again = set(self.documents)
         asking.documents(sorted(self.again))
-        if self.language.includes:
+        if self.language.has_includes:
             asking.includes(sorted(self.again))
         self.before.add_to(found, self.documents.keys() - self.again)
         found.empty -= len(self.missing)
@@ -225,7 +221,7 @@ class Server:
     def ask_symbols(self, talk: Team, asking: Asking) -> None:
         """Asks what isn't kept of symbols. Nothing of C implements anything."""
         tags = Grouped(asking.found).tags()
-        if self.language.includes:
+        if self.language.has_includes:
             names = self.named_in_moved(asking.found)
             self.told_of = {symbol for symbol in tags if self.lines.text(symbol) in names}
         is_plain = self.kind in self.language.ways and self.identifiers == {"c"}
@@ -285,9 +281,10 @@ class Server:
                 self.after.documents[at[0]].names[at] = name
         for word in sorted(faulty.get("definition", ())):
             self.after.documents[word.uri].missing.append(word)
-        for uri in set() if self.is_ready else self.again:
-            self.after.documents[uri].is_whole = False
-        for uri in faulty.get("semanticTokens/full", ()):
+        unsure = set[str]() if self.is_ready else set(self.again)
+        for method in "semanticTokens/full", "documentLink":
+            unsure |= faulty.get(method, set())
+        for uri in unsure:
             self.after.documents[uri].is_whole = False
         for uri in faulty.get("documentSymbol", ()):
             self.after.documents.pop(uri, None)
